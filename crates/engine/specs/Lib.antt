@@ -1,0 +1,9 @@
+-- Definitions.
+pub mod Refusal
+pub mod Run
+pub mod Cut
+pub mod Program
+-- Laws.
+pub mod RunLaws
+pub mod CutLaws
+pub mod Examples

@@ -1,0 +1,88 @@
+-- Paths and criteria: those that the rules allow are read back, and nothing else is read.
+use mathlib.Core.Path.{_≡_, refl, sym, ap, ap₂, _∙_, subst}
+use mathlib.Core.List.{List, [], _∷_, _++_, map}
+use mathlib.Core.Bool.{Bool, true, false, cond, not, _&&_}
+use mathlib.Core.Option.{Option, none, some, Option·map}
+use mathlib.Core.Logic.{_↔_, inl, inr}
+use Prim.Native.Nat.{ℕ, zero, suc, _+_, _≤_, _<_, max}
+use native.Mathlib.Omega.{arith}
+use lib.ListN.{length}
+use lib.Dec.{T, eqb, leb, leb→le, eqb→eq}
+use Rattle.format.specs.Options.{only}
+use Rattle.format.specs.Lists.{All}
+use Rattle.format.specs.Limits.{nestMax, stagesMax, itemsMax, membersMax, aggregatesMax, groupingMax, queryMax}
+use Rattle.format.specs.Bytes.{Field, bytes, big}
+use Rattle.format.specs.Readers.{Reader, inside, one, two, three, many, chosen, among, tagged, bigValue, emptied}
+use Rattle.format.specs.Within.{AllBytes, AllowedA}
+use Rattle.format.specs.OptionLaws.{T-true, T-and, leb-yes, eqb-same, only-some}
+use Rattle.format.specs.ReaderLaws.{Law, field-eq, OneOf, among-some, tagged-some, emptied-some, one-back, one-form, two-back, two-form, three-back, three-form, many-back, many-form}
+use Rattle.format.specs.NumberLaws.{length-big, big-back, big-form}
+use Rattle.format.specs.ArrayLaws.{arrayR-law}
+use Rattle.query.specs.Query.{Path, Criterion, always, exists, equal, same, negated, both, either, Data, literal, path, listed, test, choice, reduced, Datas, ended, more, datas, dataList, Item, keep, place, Pair, Stage, match, unwind, project, group, lookup}
+use Rattle.query.specs.Bytes.{pathF, criterionF, divisorF, dataF, dataFs, itemF, pairF, pairsF, stageF, queryF, queryBytes}
+use Rattle.query.specs.Decode.{isPath, pathR, pathR⁺, criterionR, criterionTable, isDivisor, divisorR, dataR, dataTable, itemTable, itemR, pairOf, pairR, pairsR, stageTable, stageR, queryR, decodeQuery}
+use Rattle.query.specs.Rules.{OkP, OkP⁺, nestC, OkC, NestedC, nestD, nestDs, OkD, OkDs, NestedD, OkI, OkPair, OkPairs, OkS, OkQ}
+
+-- ---- paths
+pub path-law : Law pathR pathF OkP
+unfolding pathR pathF tagged only
+path-law = record {
+  back = λ p o. rw (T-true (isPath p) o) refl;
+  form = λ f p h e.
+      let u = tagged-some 32 (λ c. only (isPath c) (some c)) f p e in
+      let o = only-some (isPath (f .1)) (some (f .1)) (u .1) in
+      let q : f .1 ≡ p = cc (o .1) in
+      (field-eq f 32 p (u .0) q, rw q at (o .0));
+}
+
+pub path⁺-law : Law pathR⁺ pathF OkP⁺
+unfolding pathR⁺ pathF only
+path⁺-law = record {
+  back = λ p o. rw (leb-yes 1 (length p) (o .1)) (path-law .back p (o .0));
+  form = λ f p h e.
+      let o = only-some (leb 1 (length (f .1))) (pathR f) e in
+      let l = path-law .form f p h (o .1) in
+      let q : p ≡ f .1 = ap (λ (x : Field). x .1) (l .0) in
+      (l .0, (l .1, rw q (leb→le 1 (length (f .1)) (o .0))));
+}
+
+-- ---- criteria
+module _ (d : ℕ) (r : Reader Criterion) (L : Law r criterionF (NestedC d)) where
+  criterion-back : (c : Criterion) → NestedC (suc d) c → among (criterionTable r) (criterionF c) ≡ some c
+  unfolding nestC criterionF among chosen emptied
+  criterion-back always o = refl
+  criterion-back (exists p) o = one-back path-law exists p (o .0)
+  criterion-back (equal p a) o = two-back path-law arrayR-law equal p a (o .0 .0) (o .0 .1)
+  criterion-back (same p q) o = two-back path-law path-law same p q (o .0 .0) (o .0 .1)
+  criterion-back (negated c) o = one-back L negated c (o .0, omega arith)
+  criterion-back (both c e) o = two-back L L both c e (o .0 .0, omega arith) (o .0 .1, omega arith)
+  criterion-back (either c e) o = two-back L L either c e (o .0 .0, omega arith) (o .0 .1, omega arith)
+
+  criterion-form : (f : Field) (c : Criterion) → AllBytes (f .1) → among (criterionTable r) f ≡ some c → (criterionF c ≡ f) × NestedC (suc d) c
+  unfolding nestC criterionF
+  criterion-form f c h e = go (among-some (criterionTable r) f c e)
+    where
+      go : OneOf (criterionTable r) f c → (criterionF c ≡ f) × NestedC (suc d) c
+      go (inl p) = let q = emptied-some always (f .1) c (p .1) in rw (← q .0) (field-eq f 33 [] (p .0) (q .1), (tt, omega arith))
+      go (inr (inl p)) = let (a, q, l, w) = one-form path-law exists (f .1) c h (p .1) in rw (← q) (field-eq f 34 _ (p .0) (sym w), (l, omega arith))
+      go (inr (inr (inl p))) = let (a, b, q, l, m, w) = two-form path-law arrayR-law equal (f .1) c h (p .1) in rw (← q) (field-eq f 35 _ (p .0) (sym w), ((l, m), omega arith))
+      go (inr (inr (inr (inl p)))) = let (a, b, q, l, m, w) = two-form path-law path-law same (f .1) c h (p .1) in rw (← q) (field-eq f 36 _ (p .0) (sym w), ((l, m), omega arith))
+      go (inr (inr (inr (inr (inl p))))) = let (a, q, l, w) = one-form L negated (f .1) c h (p .1) in rw (← q) (field-eq f 37 _ (p .0) (sym w), (l .0, omega (arith, l .1)))
+      go (inr (inr (inr (inr (inr (inl p)))))) = let (a, b, q, l, m, w) = two-form L L both (f .1) c h (p .1) in rw (← q) (field-eq f 38 _ (p .0) (sym w), ((l .0, m .0), omega (arith, l .1, m .1)))
+      go (inr (inr (inr (inr (inr (inr (inl p))))))) = let (a, b, q, l, m, w) = two-form L L either (f .1) c h (p .1) in rw (← q) (field-eq f 39 _ (p .0) (sym w), ((l .0, m .0), omega (arith, l .1, m .1)))
+      go (inr (inr (inr (inr (inr (inr (inr p))))))) = absurd p
+
+nestC-pos : (c : Criterion) → 1 ≤ nestC c
+unfolding nestC
+nestC-pos always = omega arith
+nestC-pos (exists p) = omega arith
+nestC-pos (equal p a) = omega arith
+nestC-pos (same p q) = omega arith
+nestC-pos (negated c) = omega arith
+nestC-pos (both c d) = omega arith
+nestC-pos (either c d) = omega arith
+
+pub criterion-law : (d : ℕ) → Law (criterionR d) criterionF (NestedC d)
+unfolding criterionR
+criterion-law zero = record { back = λ c o. absurd (omega (arith, nestC-pos c)); form = λ f c h e. let z : _≡_ {A = ℕ} 0 1 = cc in absurd (omega arith) }
+criterion-law (suc d) = record { back = criterion-back d (criterionR d) (criterion-law d); form = criterion-form d (criterionR d) (criterion-law d) }

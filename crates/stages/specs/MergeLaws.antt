@@ -1,0 +1,30 @@
+-- A well formed tree merged with the bare void tree, on either side, is that tree.
+use mathlib.Core.Path.{_≡_, refl, ap}
+use Prim.Native.Nat.{ℕ}
+use Rattle.format.specs.Options.{from}
+use Rattle.format.specs.Tree.{Root, void, boolean, integer, text, Tree, node, Trees, Labels, bare, label, v, find, put}
+use Rattle.format.specs.Within.{Ok, OkL}
+use Rattle.format.specs.OptionLaws.{ltb-yes}
+use Rattle.stages.specs.Merge.{mergeRoot, merge, mergeL}
+
+-- a label below all others is put before them
+put-low : (k : ℕ) (a : Trees) (ls : Labels) → OkL ls k → put k a ls ≡ label k a ls
+unfolding put
+put-low k a bare o = refl
+put-low k a (label j b ls) o = rw (ltb-yes k j (o .0)) refl
+
+mergeL-bare : (ls : Labels) (m : ℕ) → OkL ls m → mergeL ls bare ≡ ls
+unfolding merge find from
+mergeL-bare bare m o = refl
+mergeL-bare (label k a ls) m o = rw (mergeL-bare ls k (o .3)) (put-low k a ls (o .3))
+
+pub merge-bare : (t : Tree) → Ok t → merge t v ≡ t
+unfolding merge mergeRoot
+merge-bare (node r ls) o = ap (node r) (mergeL-bare ls 0 (o .1))
+
+pub bare-merge : (t : Tree) → merge v t ≡ t
+unfolding merge mergeRoot
+bare-merge (node void ls) = refl
+bare-merge (node (boolean b) ls) = refl
+bare-merge (node (integer z) ls) = refl
+bare-merge (node (text s) ls) = refl

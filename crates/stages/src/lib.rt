@@ -1,0 +1,1 @@
+//! Only definitions and laws so far: see `specs/`.
