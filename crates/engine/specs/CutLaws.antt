@@ -1,7 +1,7 @@
 -- The cut of condition 3 for the plain run: two accepted runs, one after the other, give what the uncut run gives.
 use mathlib.Core.Path.{_≡_, refl, sym, ap, ap₂, _∙_}
-use mathlib.Core.List.{List, [], _∷_, _++_}
-use mathlib.Core.Option.{Option, some}
+use mathlib.Core.List.{List, _++_}
+use mathlib.Core.Option.{some}
 use Prim.Native.Nat.{ℕ, _≤_}
 use native.Mathlib.Omega.{arith}
 use lib.ListN.{length, take, drop, take-append-drop}
@@ -17,7 +17,7 @@ use Rattle.query.specs.Bytes.{queryBytes}
 use Rattle.query.specs.Decode.{decodeQuery, readQuery}
 use Rattle.query.specs.QueryLaws.{read-query}
 use Rattle.query.specs.CutLaws.{cut-admitted}
-use Rattle.stages.specs.Stages.{going, stages}
+use Rattle.stages.specs.Stages.{going}
 use Rattle.stages.specs.JoinLaws.{stages-append}
 use Rattle.engine.specs.Run.{gives, Outcome, outcomeIn, plainRun, Accepts, resultBytes}
 use Rattle.engine.specs.Cut.{Cut}

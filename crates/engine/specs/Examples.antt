@@ -6,7 +6,7 @@ use lib.ListN.{replicate}
 use Rattle.format.specs.Tree.{Tree, node, text, bare, v}
 use Rattle.format.specs.Bytes.{arrayBytes}
 use Rattle.format.specs.Examples.{⟨_⟩, _⇒_⨾_}
-use Rattle.query.specs.Query.{always, negated, Stage, match, unwind, group, lookup}
+use Rattle.query.specs.Query.{always, negated, match, unwind, group, lookup}
 use Rattle.query.specs.Bytes.{queryBytes}
 use Rattle.stages.specs.Examples.{ran}
 use Rattle.engine.specs.Refusal.{numberOf, leave, workLeft, resultLeft}

@@ -1,8 +1,8 @@
 -- What the program writes for what stands on its standard input.
 use mathlib.Core.List.{List, [], _∷_, _++_}
 use mathlib.Core.Bool.{cond}
-use Prim.Native.Nat.{ℕ, zero, suc, _+_, _*_, _/_, _%_}
-use lib.ListN.{length, take, drop, replicate}
+use Prim.Native.Nat.{ℕ, _+_, _*_, _/_, _%_}
+use lib.ListN.{take, drop, replicate}
 use lib.Dec.{ltb, eqb}
 use Rattle.format.specs.Limits.{arrayMax, workMin}
 use Rattle.engine.specs.Run.{Outcome, plainRun, resultBytes}

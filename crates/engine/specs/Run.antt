@@ -1,12 +1,11 @@
 -- The plain run, and the calls that only check.
 use mathlib.Core.Path.{_≡_}
 use mathlib.Core.List.{List, _++_}
-use mathlib.Core.Bool.{Bool, true, false, cond, _&&_}
+use mathlib.Core.Bool.{cond, _&&_}
 use Prim.Native.Nat.{ℕ}
 use lib.ListN.{length, take, drop, replicate}
 use lib.Dec.{leb}
 use Rattle.format.specs.Limits.{arrayMax, workMin}
-use Rattle.format.specs.Tree.{Tree}
 use Rattle.format.specs.Size.{arraySize}
 use Rattle.format.specs.Bytes.{arrayBytes}
 use Rattle.format.specs.Readers.{Tested, accepted, overlong, malformed}

@@ -1,11 +1,10 @@
 -- What an accepted plain run has read and given.
-use mathlib.Core.Path.{_≡_, refl, sym, ap, subst, _∙_}
-use mathlib.Core.List.{List, _++_}
+use mathlib.Core.Path.{_≡_, refl, ap}
+use mathlib.Core.List.{List}
 use mathlib.Core.Bool.{Bool, true, false, cond, _&&_}
-use mathlib.Core.Option.{some}
-use Prim.Native.Nat.{ℕ, zero, suc, _≤_}
+use Prim.Native.Nat.{ℕ, _≤_}
 use native.Mathlib.Omega.{arith}
-use lib.ListN.{length, take, drop}
+use lib.ListN.{length, drop}
 use lib.Seq.{take-append-seam}
 use lib.Dec.{T, leb, leb→le}
 use Rattle.format.specs.Limits.{arrayMax, workMin}
@@ -15,7 +14,7 @@ use Rattle.format.specs.Bytes.{arrayBytes}
 use Rattle.format.specs.Readers.{Tested, accepted, overlong, malformed}
 use Rattle.format.specs.Decode.{readArray}
 use Rattle.format.specs.Within.{AllBytes, Within}
-use Rattle.format.specs.OptionLaws.{true-T, leb-yes, T-and}
+use Rattle.format.specs.OptionLaws.{leb-yes, T-and}
 use Rattle.format.specs.ArrayLaws.{array-only, read-array}
 use Rattle.query.specs.Query.{Stage}
 use Rattle.query.specs.Decode.{readQuery}
@@ -23,7 +22,7 @@ use Rattle.query.specs.QueryLaws.{query-only, read-query}
 use Rattle.stages.specs.Stages.{State, going, large, long, stages}
 use Rattle.stages.specs.KeepLaws.{stages-allowed}
 use Rattle.engine.specs.Refusal.{Refusal, workShort, queryLong, queryMalformed, inputLong, inputMalformed, joinedLong, joinedMalformed, treeLarge, groupLong, resultLong, numberOf}
-use Rattle.engine.specs.Run.{Ending, gives, refused, reading, final, ending, Outcome, outcomeIn, plainRun, Accepts, resultBytes}
+use Rattle.engine.specs.Run.{Ending, gives, refused, reading, final, ending, outcomeIn, plainRun, Accepts, resultBytes}
 
 -- what an accepted run has read, and the list that it gives
 pub record Read (q i j : List ℕ) (work room : ℕ) (ss : List Stage) (ts us fs : List Tree) : Type 0 where

@@ -1,10 +1,10 @@
 -- Every array within the limits has exactly one byte form, which is accepted; all other bytes are refused.
-use mathlib.Core.Path.{_≡_, refl, sym, ap, ap₂, subst, _∙_}
-use mathlib.Core.List.{List, [], _∷_, map}
+use mathlib.Core.Path.{_≡_, refl, sym, ap, ap₂, _∙_}
+use mathlib.Core.List.{List, [], _∷_}
 use mathlib.Core.Bool.{Bool, true, false, cond}
-use mathlib.Core.Option.{Option, none, some, Option·map}
+use mathlib.Core.Option.{some}
 use mathlib.Core.Logic.{_↔_, inl, inr}
-use Prim.Native.Nat.{ℕ, zero, suc, _+_, _^_, _≤_, _<_, max}
+use Prim.Native.Nat.{ℕ, zero, suc, _+_, _^_, _≤_, _<_}
 use native.Mathlib.Nat.{le-of-suc-le-suc, not-suc-le-zero}
 use native.Mathlib.Omega.{arith}
 use lib.ListN.{length}
@@ -12,7 +12,7 @@ use lib.Dec.{T, eqb, leb, ltb, leb→le, ltb→lt, eqb→eq}
 use Rattle.format.specs.Options.{_>>=_, only}
 use Rattle.format.specs.Lists.{All, each}
 use Rattle.format.specs.Limits.{arrayMax, treeMax, depthMax, textMax}
-use Rattle.format.specs.Tree.{Root, void, boolean, integer, text, Tree, node, Trees, ε, _▹_, Labels, bare, label, list, trees, isLabel}
+use Rattle.format.specs.Tree.{Root, void, boolean, integer, text, Tree, node, Trees, ε, _▹_, Labels, bare, label, list, isLabel}
 use Rattle.format.specs.Size.{depth, depthA, depthL, size, sizeA, sizeL, arraySize}
 use Rattle.format.specs.Bytes.{Field, fieldBytes, bytes, big, rootF, treeF, treeFs, labelFs, arrayF, arrayBytes}
 use Rattle.format.specs.Readers.{Reader, fields, inside, one, chosen, among, tagged, emptied, bigValue, accepted}

@@ -8,7 +8,7 @@ use lib.ListN.{replicate}
 use lib.IntN.{ℤ, pos}
 use Rattle.format.specs.Options.{_>>=_, only, from, some?}
 use Rattle.format.specs.Lists.{filter, all, gather, each}
-use Rattle.format.specs.Tree.{Tree, node, void, integer, Labels, bare, label, trees, v, isLabel, find, put}
+use Rattle.format.specs.Tree.{Tree, node, void, integer, Labels, bare, label, trees, isLabel, find, put}
 use Rattle.format.specs.Size.{depth, rootSize, size, arraySize, fits}
 use Rattle.format.specs.Bytes.{Field, fieldBytes, bytes, low, big, pattern, rootF, treeF, arrayF, treeBytes, arrayBytes}
 use Rattle.format.specs.Readers.{split, fields, inside, one, two, three, many, chosen, among, tagged, emptied, lowValue, bigValue, wellFormed, tested}

@@ -1,7 +1,7 @@
 -- Numbers in bytes, high byte first, and two's complement: each is read back from the other.
-use mathlib.Core.Path.{_≡_, refl, sym, ap, subst, _∙_}
+use mathlib.Core.Path.{_≡_, refl, ap, _∙_}
 use mathlib.Core.List.{List, [], _∷_, reverse, reverse-reverse}
-use mathlib.Core.Bool.{Bool, true, false, not}
+use mathlib.Core.Bool.{Bool, true, false}
 use Prim.Native.Nat.{ℕ, zero, suc, _+_, _-_, _*_, _/_, _%_, _^_, _≤_, _<_}
 use native.Mathlib.Nat.{mod-add-div, div-lt-iff-lt-mul, zero-lt-suc, pow-suc, pow-zero}
 use native.Mathlib.Omega.{arith}

@@ -4,9 +4,9 @@ use mathlib.Core.Bool.{Bool, true, false, cond, not, _&&_}
 use mathlib.Core.Option.{Option, none, some, Option·map}
 use Prim.Native.Nat.{ℕ, suc, _≤_, _<_}
 use native.Mathlib.Omega.{arith}
-use lib.Dec.{T, eqb, leb, ltb, le→leb, leb→le, nltb→le, eqb-refl}
+use lib.Dec.{T, eqb, leb, ltb, le→leb, eqb-refl}
 use lib.Arith.{lt→nleb, le→nltb}
-use Rattle.format.specs.Options.{_>>=_, only, from, some?}
+use Rattle.format.specs.Options.{_>>=_, only}
 
 -- ---- tests
 pub T-true : (b : Bool) → T b → b ≡ true

@@ -1,18 +1,18 @@
 -- Readers and writers of fields: what is allowed is read back, and nothing else is read. Shown once over tags, counts and
 -- lengths; trees, criteria, data and stages cite it.
-use mathlib.Core.Path.{_≡_, refl, sym, ap, ap₂, subst, _∙_}
+use mathlib.Core.Path.{_≡_, refl, sym, ap, ap₂, _∙_}
 use mathlib.Core.List.{List, [], _∷_, map}
 use mathlib.Core.Bool.{Bool, true, false, cond}
-use mathlib.Core.Option.{Option, none, some, Option·map}
+use mathlib.Core.Option.{Option, none, some}
 use mathlib.Core.Logic.{_↔_, _⊎_, inl, inr}
 use Prim.Native.Nat.{ℕ, _≤_}
 use native.Mathlib.Omega.{arith}
 use lib.ListN.{length, length-map}
-use lib.Dec.{T, eqb, leb, leb→le, eqb→eq}
+use lib.Dec.{eqb, leb, leb→le, eqb→eq}
 use Rattle.format.specs.Options.{_>>=_, only}
 use Rattle.format.specs.Lists.{All, each}
 use Rattle.format.specs.Bytes.{Field, bytes}
-use Rattle.format.specs.Readers.{Reader, Table, fields, inside, one, two, three, many, chosen, among, tagged, emptied, Tested, accepted, overlong, malformed, wellFormed, tested}
+use Rattle.format.specs.Readers.{Reader, Table, fields, inside, one, two, three, many, chosen, among, tagged, emptied, accepted, overlong, wellFormed, tested}
 use Rattle.format.specs.Within.{AllBytes}
 use Rattle.format.specs.OptionLaws.{leb-yes, true-T, only-some, map-some, bind-some}
 use Rattle.format.specs.FieldLaws.{fields-bytes, BytesF, parts}

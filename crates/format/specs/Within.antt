@@ -1,7 +1,6 @@
 -- What the format allows: bytes, roots in range, rising labels, trees and arrays within the limits.
 use mathlib.Core.List.{List}
 use Prim.Native.Nat.{ℕ, _≤_, _<_, _^_}
-use lib.IntN.{ℤ}
 use lib.Signed.{mag}
 use lib.ListN.{length}
 use lib.Dec.{T}

@@ -1,27 +1,23 @@
 -- Paths and criteria: those that the rules allow are read back, and nothing else is read.
-use mathlib.Core.Path.{_≡_, refl, sym, ap, ap₂, _∙_, subst}
-use mathlib.Core.List.{List, [], _∷_, _++_, map}
-use mathlib.Core.Bool.{Bool, true, false, cond, not, _&&_}
-use mathlib.Core.Option.{Option, none, some, Option·map}
-use mathlib.Core.Logic.{_↔_, inl, inr}
-use Prim.Native.Nat.{ℕ, zero, suc, _+_, _≤_, _<_, max}
+use mathlib.Core.Path.{_≡_, refl, sym, ap}
+use mathlib.Core.List.{[]}
+use mathlib.Core.Option.{some}
+use mathlib.Core.Logic.{inl, inr}
+use Prim.Native.Nat.{ℕ, zero, suc, _≤_}
 use native.Mathlib.Omega.{arith}
 use lib.ListN.{length}
-use lib.Dec.{T, eqb, leb, leb→le, eqb→eq}
+use lib.Dec.{leb, leb→le}
 use Rattle.format.specs.Options.{only}
-use Rattle.format.specs.Lists.{All}
-use Rattle.format.specs.Limits.{nestMax, stagesMax, itemsMax, membersMax, aggregatesMax, groupingMax, queryMax}
-use Rattle.format.specs.Bytes.{Field, bytes, big}
-use Rattle.format.specs.Readers.{Reader, inside, one, two, three, many, chosen, among, tagged, bigValue, emptied}
-use Rattle.format.specs.Within.{AllBytes, AllowedA}
-use Rattle.format.specs.OptionLaws.{T-true, T-and, leb-yes, eqb-same, only-some}
-use Rattle.format.specs.ReaderLaws.{Law, field-eq, OneOf, among-some, tagged-some, emptied-some, one-back, one-form, two-back, two-form, three-back, three-form, many-back, many-form}
-use Rattle.format.specs.NumberLaws.{length-big, big-back, big-form}
+use Rattle.format.specs.Bytes.{Field}
+use Rattle.format.specs.Readers.{Reader, chosen, among, tagged, emptied}
+use Rattle.format.specs.Within.{AllBytes}
+use Rattle.format.specs.OptionLaws.{T-true, leb-yes, only-some}
+use Rattle.format.specs.ReaderLaws.{Law, field-eq, OneOf, among-some, tagged-some, emptied-some, one-back, one-form, two-back, two-form}
 use Rattle.format.specs.ArrayLaws.{arrayR-law}
-use Rattle.query.specs.Query.{Path, Criterion, always, exists, equal, same, negated, both, either, Data, literal, path, listed, test, choice, reduced, Datas, ended, more, datas, dataList, Item, keep, place, Pair, Stage, match, unwind, project, group, lookup}
-use Rattle.query.specs.Bytes.{pathF, criterionF, divisorF, dataF, dataFs, itemF, pairF, pairsF, stageF, queryF, queryBytes}
-use Rattle.query.specs.Decode.{isPath, pathR, pathR⁺, criterionR, criterionTable, isDivisor, divisorR, dataR, dataTable, itemTable, itemR, pairOf, pairR, pairsR, stageTable, stageR, queryR, decodeQuery}
-use Rattle.query.specs.Rules.{OkP, OkP⁺, nestC, OkC, NestedC, nestD, nestDs, OkD, OkDs, NestedD, OkI, OkPair, OkPairs, OkS, OkQ}
+use Rattle.query.specs.Query.{Criterion, always, exists, equal, same, negated, both, either}
+use Rattle.query.specs.Bytes.{pathF, criterionF}
+use Rattle.query.specs.Decode.{isPath, pathR, pathR⁺, criterionR, criterionTable}
+use Rattle.query.specs.Rules.{OkP, OkP⁺, nestC, NestedC}
 
 -- ---- paths
 pub path-law : Law pathR pathF OkP

@@ -2,10 +2,9 @@
 use mathlib.Core.Path.{_≡_, refl, ap, _∙_}
 use mathlib.Core.List.{List, [], _∷_, _++_, map}
 use mathlib.Core.Option.{some}
-use Prim.Native.Nat.{ℕ, _+_, _≤_}
+use Prim.Native.Nat.{ℕ, _+_}
 use native.Mathlib.Omega.{arith}
 use lib.ListN.{length, length-append}
-use Rattle.format.specs.Lists.{All}
 use Rattle.format.specs.Bytes.{fieldBytes, bytes}
 use Rattle.format.specs.Within.{AllBytes}
 use Rattle.format.specs.ListLaws.{All-left, All-right}

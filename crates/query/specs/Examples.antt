@@ -1,13 +1,13 @@
 -- Queries that are accepted and some that are refused, computed from the definitions.
 use mathlib.Core.Path.{_≡_, refl}
-use mathlib.Core.List.{List, [], _∷_, _++_, map}
+use mathlib.Core.List.{List, [], _∷_, map}
 use mathlib.Core.Bool.{Bool, true, false}
 use mathlib.Core.Option.{Option}
 use Prim.Native.Nat.{ℕ, zero, suc}
 use lib.ListN.{replicate}
 use Rattle.format.specs.Options.{some?}
 use Rattle.format.specs.Examples.{#, decoded}
-use Rattle.query.specs.Query.{Path, Criterion, always, exists, equal, same, negated, both, either, Data, literal, path, listed, test, choice, reduced, Datas, ended, more, datas, Item, keep, place, Pair, Stage, match, unwind, project, group, lookup}
+use Rattle.query.specs.Query.{Criterion, always, exists, equal, same, negated, both, either, Data, literal, path, listed, test, choice, reduced, ended, more, datas, keep, place, Stage, match, unwind, project, group, lookup}
 use Rattle.query.specs.Bytes.{pathF, criterionF, divisorF, dataF, itemF, pairF, pairsF, stageF, queryF, queryBytes}
 use Rattle.query.specs.Decode.{isPath, pathR, pathR⁺, criterionR, isDivisor, divisorR, dataR, itemR, pairOf, pairR, pairsR, stageR, queryR, decodeQuery, readQuery}
 

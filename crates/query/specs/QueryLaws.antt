@@ -1,28 +1,25 @@
 -- Every query that the rules allow has exactly one byte form, which is accepted; all other bytes are refused.
-use mathlib.Core.Path.{_≡_, refl, sym, ap, ap₂, _∙_, subst}
-use mathlib.Core.List.{List, [], _∷_, _++_, map}
-use mathlib.Core.Bool.{Bool, true, false, cond, not, _&&_}
-use mathlib.Core.Option.{Option, none, some, Option·map}
+use mathlib.Core.Path.{_≡_, sym, ap, _∙_}
+use mathlib.Core.List.{List}
+use mathlib.Core.Option.{some}
 use mathlib.Core.Logic.{_↔_, inl, inr}
-use Prim.Native.Nat.{ℕ, zero, suc, _+_, _≤_, _<_, max}
+use Prim.Native.Nat.{ℕ, _≤_}
 use native.Mathlib.Omega.{arith}
 use lib.ListN.{length}
-use lib.Dec.{T, eqb, leb, leb→le, eqb→eq}
+use lib.Dec.{leb, leb→le}
 use Rattle.format.specs.Options.{only}
 use Rattle.format.specs.Lists.{All}
-use Rattle.format.specs.Limits.{nestMax, stagesMax, itemsMax, membersMax, aggregatesMax, groupingMax, queryMax}
-use Rattle.format.specs.Bytes.{Field, bytes, big}
-use Rattle.format.specs.Readers.{Reader, inside, one, two, three, many, chosen, among, tagged, bigValue, emptied, accepted}
-use Rattle.format.specs.Within.{AllBytes, AllowedA}
-use Rattle.format.specs.OptionLaws.{T-true, T-and, leb-yes, eqb-same, only-some}
+use Rattle.format.specs.Limits.{nestMax, stagesMax, itemsMax, aggregatesMax, groupingMax, queryMax}
+use Rattle.format.specs.Bytes.{Field}
+use Rattle.format.specs.Readers.{inside, one, two, many, chosen, among, tagged, accepted}
+use Rattle.format.specs.Within.{AllBytes}
+use Rattle.format.specs.OptionLaws.{leb-yes, eqb-same, only-some}
 use Rattle.format.specs.FieldLaws.{bytes-one}
-use Rattle.format.specs.ReaderLaws.{Law, field-eq, OneOf, among-some, tagged-some, emptied-some, one-back, one-form, two-back, two-form, three-back, three-form, many-back, many-form, tested-only}
-use Rattle.format.specs.NumberLaws.{length-big, big-back, big-form}
-use Rattle.format.specs.ArrayLaws.{arrayR-law}
-use Rattle.query.specs.Query.{Path, Criterion, always, exists, equal, same, negated, both, either, Data, literal, path, listed, test, choice, reduced, Datas, ended, more, datas, dataList, Item, keep, place, Pair, Stage, match, unwind, project, group, lookup}
-use Rattle.query.specs.Bytes.{pathF, criterionF, divisorF, dataF, dataFs, itemF, pairF, pairsF, stageF, queryF, queryBytes}
-use Rattle.query.specs.Decode.{isPath, pathR, pathR⁺, criterionR, criterionTable, isDivisor, divisorR, dataR, dataTable, itemTable, itemR, pairOf, pairR, pairsR, stageTable, stageR, queryR, decodeQuery, readQuery}
-use Rattle.query.specs.Rules.{OkP, OkP⁺, nestC, OkC, NestedC, nestD, nestDs, OkD, OkDs, NestedD, OkI, OkPair, OkPairs, OkS, OkQ}
+use Rattle.format.specs.ReaderLaws.{Law, field-eq, OneOf, among-some, tagged-some, one-back, one-form, two-back, two-form, three-back, three-form, many-back, many-form, tested-only}
+use Rattle.query.specs.Query.{Item, keep, place, Stage, match, unwind, project, group, lookup}
+use Rattle.query.specs.Bytes.{itemF, pairF, pairsF, stageF, queryF, queryBytes}
+use Rattle.query.specs.Decode.{pathR, pathR⁺, itemTable, itemR, pairOf, pairR, pairsR, stageTable, stageR, queryR, decodeQuery, readQuery}
+use Rattle.query.specs.Rules.{OkI, OkPair, OkPairs, OkS, OkQ}
 use Rattle.query.specs.CriterionLaws.{path-law, path⁺-law, criterion-law}
 use Rattle.query.specs.DataLaws.{data-law}
 

@@ -10,7 +10,7 @@ use Rattle.format.specs.Tree.{Tree, node, integer, bare, v}
 use Rattle.format.specs.Size.{arraySize}
 use Rattle.format.specs.Bytes.{arrayBytes}
 use Rattle.format.specs.Examples.{int, #, ⟨_⟩, _⇒_⨾_, decoded}
-use Rattle.query.specs.Query.{Path, exists, equal, Pair, Stage, unwind, group, lookup}
+use Rattle.query.specs.Query.{exists, equal, Stage, unwind, group, lookup}
 use Rattle.query.specs.Decode.{pairOf}
 use Rattle.query.specs.Examples.{admitted}
 use Rattle.stages.specs.Paths.{present, join, joins, over, apply}

@@ -1,14 +1,14 @@
 -- Every stage keeps trees well formed, and what leaves it is not too large: the stages keep arrays within the limits.
 use mathlib.Core.Path.{_≡_, sym, subst}
 use mathlib.Core.List.{List, [], _∷_, _++_, map}
-use mathlib.Core.Bool.{Bool, true, false, cond, not, _&&_}
+use mathlib.Core.Bool.{Bool, false, not, _&&_}
 use mathlib.Core.Logic.{_≢_}
 use mathlib.Core.Option.{Option, none, some, Option·map}
 use Prim.Native.Nat.{ℕ, zero, suc, _+_, _*_, _^_, _≤_, _<_}
 use native.Mathlib.Nat.{le-of-suc-le-suc, div-lt-iff-lt-mul, mul-le-mul-left, suc-mul}
 use native.Mathlib.Omega.{arith}
 use lib.ListN.{length}
-use lib.IntN.{ℤ, pos, negsuc, negℤ}
+use lib.IntN.{pos, negsuc, negℤ}
 use lib.Signed.{mag}
 use lib.Dec.{T, eqb, leb, ltb, leb→le, ltb→lt, eqb→eq, nltb→le, eqb-refl}
 use Rattle.format.specs.Options.{_>>=_, from}
@@ -19,7 +19,7 @@ use Rattle.format.specs.Size.{size, depth, fits, arraySize}
 use Rattle.format.specs.Within.{OkR, Ok, OkA, OkL, Allowed, AllowedA}
 use Rattle.format.specs.OptionLaws.{true-T, false-T, T-and, cond-cases}
 use Rattle.format.specs.ListLaws.{All-append, All-filter, All-map, All-gather, All-imply}
-use Rattle.query.specs.Query.{Path, Criterion, Data, literal, path, listed, test, choice, reduced, Datas, ended, more, Item, keep, place, Pair, Stage, match, unwind, project, group, lookup}
+use Rattle.query.specs.Query.{Path, Data, literal, path, listed, test, choice, reduced, Datas, ended, more, Item, keep, place, Pair, Stage, match, unwind, project, group, lookup}
 use Rattle.query.specs.Decode.{isPath, isDivisor}
 use Rattle.query.specs.Rules.{OkP, OkD, OkDs, OkI, OkPair, OkS}
 use Rattle.stages.specs.Paths.{Found, join, joins, over, apply}

@@ -2,7 +2,7 @@
 use mathlib.Core.Path.{_≡_, refl, ap}
 use Prim.Native.Nat.{ℕ}
 use Rattle.format.specs.Options.{from}
-use Rattle.format.specs.Tree.{Root, void, boolean, integer, text, Tree, node, Trees, Labels, bare, label, v, find, put}
+use Rattle.format.specs.Tree.{void, boolean, integer, text, Tree, node, Trees, Labels, bare, label, v, find, put}
 use Rattle.format.specs.Within.{Ok, OkL}
 use Rattle.format.specs.OptionLaws.{ltb-yes}
 use Rattle.stages.specs.Merge.{mergeRoot, merge, mergeL}
