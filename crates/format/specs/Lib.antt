@@ -8,6 +8,14 @@ pub mod Bytes
 pub mod Readers
 pub mod Decode
 pub mod Within
+pub mod Area
+pub mod Compare
+pub mod Stand
+pub mod Named
+pub mod Labels
+pub mod Head
+pub mod View
+pub mod Check
 -- Laws.
 pub mod OptionLaws
 pub mod ListLaws
@@ -16,4 +24,11 @@ pub mod ReaderLaws
 pub mod NumberLaws
 pub mod SizeLaws
 pub mod ArrayLaws
+pub mod AreaLaws
+pub mod CompareLaws
+pub mod StandLaws
+pub mod LabelLaws
+pub mod DepthLaws
+pub mod HeadLaws
+pub mod CheckLaws
 pub mod Examples

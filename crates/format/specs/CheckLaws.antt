@@ -1,0 +1,411 @@
+-- The steps of the check, in the terms in which the code meets them, and what an accepted array is.
+use mathlib.Core.Path.{_≡_, refl, sym, ap, _∙_}
+use mathlib.Core.List.{List, [], _∷_}
+use mathlib.Core.Bool.{Bool, true, false, cond, _&&_}
+use mathlib.Core.Option.{Option, none, some, Option·map}
+use Prim.Native.Nat.{ℕ, zero, suc, _+_, _-_, _≤_, _<_}
+use native.Mathlib.Numerals.{sub-one}
+use native.Mathlib.Omega.{arith}
+use lib.ListN.{length, getD}
+use lib.Seq.{slice, slice-cons, slice-empty, length-slice, take-length}
+use lib.Dec.{eqb, leb, ltb}
+use borrow.Author.Tests.{eq-eqb, ne-eqb, le-leb, lt-leb, lt-ltb, le-ltb}
+use Rattle.format.specs.Options.{_>>=_, only, from, some?}
+use Rattle.format.specs.Lists.{each}
+use Rattle.format.specs.Limits.{arrayMax, treeMax, depthMax, labelMax, textMax}
+use Rattle.format.specs.Tree.{Tree, isLabel}
+use Rattle.format.specs.Readers.{Reader, inside, one, chosen, among, tagged, emptied, accepted, overlong, wellFormed, tested}
+use Rattle.format.specs.Decode.{bit, rootR, arrayWith, labelC, labelR, labelsWith, treeC, treeR, arrayR, decodeArray, readArray}
+use Rattle.format.specs.Bytes
+use Rattle.format.specs.Readers
+use Rattle.format.specs.declared.head.Head.the-variants.{Field, Nothing}
+use Rattle.format.specs.declared.check.Check.the-variants.{Accepted, Overlong, Malformed}
+use Rattle.format.specs.Labels.{labelAt}
+use Rattle.format.specs.Head.{headAt, spanAt}
+use Rattle.format.specs.Check.{rootOk, treeOk, arrayOk, labelOk, treesOk, labelsOk, inputOk, arrayCheck}
+use Rattle.format.specs.Bytes.{arrayBytes}
+use Rattle.format.specs.Within.{AllBytes, Within}
+use Rattle.format.specs.OptionLaws.{only-some, map-some, some-equal}
+use Rattle.format.specs.SizeLaws.{length-array}
+use Rattle.format.specs.ArrayLaws.{array-back, array-only}
+use Rattle.format.specs.ReaderLaws.{tagged-some}
+use Rattle.format.specs.HeadLaws.{some-map, head-found, inside-next, inside-bad, inside-nothing, inside-one, inside-end, inside-none, span-none}
+
+-- ---- roots
+empty-ok : {A : Type 0} (a : A) (c : List ℕ) → some? (emptied a c) ≡ eqb (length c) 0
+unfolding emptied some?
+empty-ok a [] = refl
+empty-ok a (b ∷ c) = sym (ne-eqb (length (b ∷ c)) 0 (λ e. omega arith))
+
+bit-ok : (c : List ℕ) → length c ≡ 1 → some? (bit c) ≡ ltb (getD c 0 0) 2
+unfolding bit some?
+bit-ok [] e = absurd (omega arith)
+bit-ok (zero ∷ []) e = refl
+bit-ok (suc zero ∷ []) e = refl
+bit-ok (suc (suc n) ∷ []) e = sym (le-ltb (suc (suc n)) 2 (omega arith))
+bit-ok (b ∷ x ∷ c) e = absurd (omega arith)
+
+bit-not : (c : List ℕ) → (length c ≡ 1 → ⊥) → some? (bit c) ≡ false
+unfolding bit some?
+bit-not [] n = refl
+bit-not (zero ∷ []) n = absurd (n refl)
+bit-not (suc zero ∷ []) n = absurd (n refl)
+bit-not (suc (suc m) ∷ []) n = absurd (n refl)
+bit-not (b ∷ x ∷ c) n = refl
+
+only-ok : {A : Type 0} (b : Bool) (a : A) → some? (only b (some a)) ≡ b
+unfolding only some?
+only-ok true a = refl
+only-ok false a = refl
+
+module _ (s : List ℕ) (from to t : ℕ) (within : to ≤ length s) where
+  span-length : length (slice from to s) ≡ to - from
+  span-length = length-slice from to s within
+
+  pub root-void : t ≡ 3 → rootOk (t, slice from to s) ≡ eqb (to - from) 0
+  unfolding rootOk rootR among chosen
+  root-void e = rw (e, ← span-length) (empty-ok _ (slice from to s))
+
+  pub root-integer : t ≡ 5 → rootOk (t, slice from to s) ≡ eqb (to - from) 8
+  unfolding rootOk rootR among chosen
+  root-integer e = rw (e, ← span-length) (only-ok _ _)
+
+  pub root-text : t ≡ 6 → rootOk (t, slice from to s) ≡ leb (to - from) textMax
+  unfolding rootOk rootR among chosen
+  root-text e = rw (e, ← span-length) (only-ok _ _)
+
+  pub root-other : (t ≡ 3 → ⊥) → (t ≡ 4 → ⊥) → (t ≡ 5 → ⊥) → (t ≡ 6 → ⊥) → rootOk (t, slice from to s) ≡ false
+  unfolding rootOk rootR among chosen some?
+  root-other a b c d = rw (ne-eqb t 3 a, ne-eqb t 4 b, ne-eqb t 5 c, ne-eqb t 6 d) refl
+
+module _ (s : List ℕ) (from to : ℕ) (within : to ≤ length s) where
+  pub root-bit : to - from ≡ 1 → rootOk (4, slice from to s) ≡ ltb (getD s from 0) 2
+  unfolding rootOk rootR among chosen
+  root-bit e =
+      let c : slice from to s ≡ getD s from 0 ∷ slice (suc from) to s = slice-cons from to s 0 (omega arith) within in
+      bit-ok (slice from to s) (length-slice from to s within ∙ e) ∙ ap (λ b. ltb (getD b 0 0) 2) c
+
+  pub root-not-bit : (to - from ≡ 1 → ⊥) → rootOk (4, slice from to s) ≡ false
+  unfolding rootOk rootR among chosen
+  root-not-bit n = bit-not (slice from to s) (λ e. n (sym (length-slice from to s within) ∙ e))
+
+-- ---- what is read, and what then
+bind-good : {A B : Type 0} (x : Option A) (g : A → Option B) (b : Bool) → some? x ≡ true → ((a : A) → some? (g a) ≡ b) → some? (x >>= g) ≡ b
+unfolding some? _>>=_
+bind-good none g b h k = let z : _≡_ {A = ℕ} 0 1 = cc in absurd (omega arith)
+bind-good (some a) g b h k = k a
+
+bind-bad : {A B : Type 0} (x : Option A) (g : A → Option B) → some? x ≡ false → some? (x >>= g) ≡ false
+unfolding some? _>>=_
+bind-bad none g h = refl
+bind-bad (some a) g h = let z : _≡_ {A = ℕ} 0 1 = cc in absurd (omega arith)
+
+-- ---- trees, one after another
+module _ (s : List ℕ) (at end : ℕ) (within : end ≤ length s) (d : ℕ) where
+  module _ (t f e : ℕ) (h : headAt s at end ≡ Field t f e) where
+    pub trees-next : treeOk d (t, slice f e s) ≡ true → treesOk d (slice at end s) ≡ treesOk d (slice e end s)
+    unfolding treesOk treeOk each
+    trees-next k = inside-next s at end within t f e h (each (treeR d)) (each (treeR d)) (λ fs. bind-good (treeR d (t, slice f e s)) _ _ k (λ a. some-map _ _))
+
+    pub trees-bad : treeOk d (t, slice f e s) ≡ false → treesOk d (slice at end s) ≡ false
+    unfolding treesOk treeOk each
+    trees-bad k = inside-bad s at end within t f e h (each (treeR d)) (λ fs. bind-bad (treeR d (t, slice f e s)) _ k)
+
+  pub trees-nothing : at < end → headAt s at end ≡ Nothing → treesOk d (slice at end s) ≡ false
+  unfolding treesOk
+  trees-nothing l h = inside-nothing s at end within (each (treeR d)) l h
+
+pub trees-end : (s : List ℕ) (at end d : ℕ) → at ≤ end → end ≤ at → treesOk d (slice at end s) ≡ true
+unfolding treesOk each some?
+trees-end s at end d a b = let q : at ≡ end = omega arith in rw q (inside-end (each (treeR d)) s end)
+
+-- ---- a tree
+pub tree-deep : (d : ℕ) (f : Bytes.Field) → d ≡ 0 → treeOk d f ≡ false
+unfolding treeOk treeR some?
+tree-deep d f e = rw e refl
+
+pub tree-tag : (d t : ℕ) (c : List ℕ) → (t ≡ 2 → ⊥) → treeOk d (t, c) ≡ false
+unfolding treeOk treeR tagged only some?
+tree-tag zero t c n = refl
+tree-tag (suc d) t c n = rw (ne-eqb t 2 n) refl
+
+large : (d t : ℕ) (c : List ℕ) → treeMax < 3 + length c → treeOk d (t, c) ≡ false
+unfolding treeOk treeR tagged only some?
+large zero t c n = refl
+large (suc d) t c n = rw (lt-leb (3 + length c) treeMax n) (go (eqb t 2))
+  where
+    go : (b : Bool) → some? {A = Tree} (only b none) ≡ false
+    go true = refl
+    go false = refl
+
+small : (d t : ℕ) (c : List ℕ) → (d ≡ 0 → ⊥) → t ≡ 2 → 3 + length c ≤ treeMax → treeOk d (t, c) ≡ some? (inside (treeC (treeR (d - 1))) c)
+unfolding treeOk treeR tagged only
+small zero t c z e l = absurd (z refl)
+small (suc d) t c z e l = rw (eq-eqb t 2 e, le-leb (3 + length c) treeMax l, sub-one (suc d)) refl
+
+module _ (s : List ℕ) (from to d t : ℕ) (within : to ≤ length s) where
+  pub tree-large : treeMax - 3 < to - from → treeOk d (t, slice from to s) ≡ false
+  tree-large n = large d t (slice from to s) (omega (arith, length-slice from to s within))
+
+  module _ (deep : d ≡ 0 → ⊥) (tag : t ≡ 2) (order : from ≤ to) (fits : to - from ≤ treeMax - 3) where
+    content : treeOk d (t, slice from to s) ≡ some? (inside (treeC (treeR (d - 1))) (slice from to s))
+    content = small d t (slice from to s) deep tag (omega (arith, length-slice from to s within))
+
+    module _ (u f e : ℕ) (h : headAt s from to ≡ Field u f e) where
+      pub tree-labels : rootOk (u, slice f e s) ≡ true → treeOk d (t, slice from to s) ≡ labelsOk (d - 1) 0 (slice e to s)
+      unfolding rootOk labelsOk treeC
+      tree-labels k =
+          content ∙ inside-next s from to within u f e h (treeC (treeR (d - 1))) (labelsWith (treeR (d - 1)) 0)
+          (λ fs. bind-good (rootR (u, slice f e s)) _ _ k (λ a. some-map _ _))
+
+      pub tree-root : rootOk (u, slice f e s) ≡ false → treeOk d (t, slice from to s) ≡ false
+      unfolding rootOk treeC
+      tree-root k = content ∙ inside-bad s from to within u f e h (treeC (treeR (d - 1))) (λ fs. bind-bad (rootR (u, slice f e s)) _ k)
+
+    -- no root
+    pub tree-nothing : headAt s from to ≡ Nothing → treeOk d (t, slice from to s) ≡ false
+    unfolding treeC some?
+    tree-nothing h = content ∙ inside-none (treeC (treeR (d - 1))) s from to within order refl h
+
+-- ---- a label
+-- one array field that spans the bytes
+unfoldable spanOk : ℕ → List ℕ → Bool
+spanOk d b = some? (inside (one (λ a. a) (arrayWith (treeR d))) b)
+
+and-false : (b : Bool) → b && false ≡ false
+and-false true = refl
+and-false false = refl
+
+and-true : (b : Bool) → b && true ≡ b
+and-true true = refl
+and-true false = refl
+
+-- the label is known before its array is read
+module _ (r : Reader (List Tree)) (j k : ℕ) where
+  above : ℕ × List Tree → Bool
+  above l = ltb k (l .0)
+
+  gate-map : (x : Option (List Tree)) → from false above (Option·map (λ a. (j, a)) x) ≡ ltb k j && some? (Option·map (λ a. a) x)
+  unfolding from some? above
+  gate-map none = sym (and-false (ltb k j))
+  gate-map (some a) = sym (and-true (ltb k j))
+
+  gate : (o : Option (List Bytes.Field)) → from false above (o >>= one (λ a. (j, a)) r) ≡ ltb k j && some? (o >>= one (λ a. a) r)
+  unfolding from some? _>>=_ one
+  gate none = sym (and-false (ltb k j))
+  gate (some []) = sym (and-false (ltb k j))
+  gate (some (f ∷ [])) = gate-map (r f)
+  gate (some (f ∷ f′ ∷ fs)) = sym (and-false (ltb k j))
+
+from-only : {A : Type 0} (g : A → Bool) (b : Bool) (x : Option A) → from false g (only b x) ≡ b && from false g x
+unfolding from only
+from-only g true x = refl
+from-only g false x = refl
+
+-- the three tests
+label-tests : (d k j : ℕ) (b : List ℕ) → labelOk d k (7, j ∷ b) ≡ isLabel j && (ltb k j && spanOk d b)
+unfolding labelOk labelR labelC tagged only spanOk inside above
+label-tests d k j b = from-only _ (isLabel j) _ ∙ ap (λ x. isLabel j && x) (gate (arrayWith (treeR d)) j k (Readers.fields b))
+
+pub label-tag : (d k t : ℕ) (c : List ℕ) → (t ≡ 7 → ⊥) → labelOk d k (t, c) ≡ false
+unfolding labelOk labelR tagged only from
+label-tag d k t c n = rw (ne-eqb t 7 n) refl
+
+label-no-content : (d k t : ℕ) (b : Bool) → eqb t 7 ≡ b → labelOk d k (t, []) ≡ false
+unfolding labelOk labelR labelC tagged only from
+label-no-content d k t true e = rw e refl
+label-no-content d k t false e = rw e refl
+
+module _ (s : List ℕ) (at to d k t : ℕ) (within : to ≤ length s) where
+  pub label-empty : at + 3 ≤ to → to - at < 4 → labelOk d k (t, slice (at + 3) to s) ≡ false
+  label-empty a b =
+      let e : at + 3 ≡ to = omega arith in
+      rw (e, slice-empty to s) (label-no-content d k t (eqb t 7) refl)
+
+  module _ (tag : t ≡ 7) (four : 4 ≤ to - at) (j : ℕ) (q : j ≡ labelAt s at) where
+    label-is : labelOk d k (t, slice (at + 3) to s) ≡ isLabel j && (ltb k j && spanOk d (slice (at + 4) to s))
+    label-is =
+        let c : slice (at + 3) to s ≡ getD s (at + 3) 0 ∷ slice (suc (at + 3)) to s = slice-cons (at + 3) to s 0 (omega arith) within in
+        let n : suc (at + 3) ≡ at + 4 = omega arith in
+        rw (tag, c, n, q) (label-tests d k (getD s (at + 3) 0) (slice (at + 4) to s))
+
+    pub label-low : j ≤ k → labelOk d k (t, slice (at + 3) to s) ≡ false
+    label-low l = label-is ∙ rw (le-ltb k j l) (and-false (isLabel j))
+
+    pub label-high : labelMax < j → labelOk d k (t, slice (at + 3) to s) ≡ false
+    unfolding isLabel
+    label-high l = label-is ∙ rw (lt-leb j labelMax l, and-false (leb 1 j)) refl
+
+    module _ (low : k < j) (high : j ≤ labelMax) where
+      spans : labelOk d k (t, slice (at + 3) to s) ≡ spanOk d (slice (at + 4) to s)
+      unfolding isLabel
+      spans = label-is ∙ rw (le-leb 1 j (omega arith), le-leb j labelMax high, lt-ltb k j low) refl
+
+      pub label-array : (u f e : ℕ) → spanAt s (at + 4) to ≡ Field u f e → labelOk d k (t, slice (at + 3) to s) ≡ arrayOk d (u, slice f e s)
+      unfolding spanOk arrayOk
+      label-array u f e h = spans ∙ inside-one s (at + 4) to within (λ a. a) (arrayWith (treeR d)) u f e h
+
+      pub label-nothing : spanAt s (at + 4) to ≡ Nothing → labelOk d k (t, slice (at + 3) to s) ≡ false
+      unfolding spanOk some?
+      label-nothing h = spans ∙ ap some? (span-none s (at + 4) to within (λ a. a) (arrayWith (treeR d)) (omega arith) h)
+
+-- ---- labels, one after another
+-- a label field that is read has its label first
+name-one : {A : Type 0} (r : Reader A) (j : ℕ) (o : Option (List Bytes.Field)) (l : ℕ × A) → (o >>= one (λ a. (j, a)) r) ≡ some l → l .0 ≡ j
+unfolding _>>=_ one
+name-one r j none l h = let z : _≡_ {A = ℕ} 0 1 = cc in absurd (omega arith)
+name-one r j (some []) l h = let z : _≡_ {A = ℕ} 0 1 = cc in absurd (omega arith)
+name-one {A = A} r j (some (f ∷ [])) l h = let m = map-some (λ (a : A). (j, a)) (r f) h in ap (λ (x : ℕ × A). x .0) (sym (m .2))
+name-one r j (some (f ∷ f′ ∷ fs)) l h = let z : _≡_ {A = ℕ} 0 1 = cc in absurd (omega arith)
+
+name-content : (r : Reader Tree) (c : List ℕ) (l : ℕ × List Tree) → labelC r c ≡ some l → (l .0 ≡ getD c 0 0) × (0 < length c)
+unfolding labelC inside
+name-content r [] l h = let z : _≡_ {A = ℕ} 0 1 = cc in absurd (omega arith)
+name-content r (j ∷ b) l h = (name-one (arrayWith r) j (Readers.fields b) l (only-some (isLabel j) _ h .1), omega arith)
+
+-- and what follows it is above
+record Label (d k t : ℕ) (c : List ℕ) : Type 0 where
+  l : ℕ × List Tree
+  reads : labelR (treeR d) (t, c) ≡ some l
+  name : l .0 ≡ getD c 0 0
+  rises : ltb k (l .0) ≡ true
+  room : 0 < length c
+
+label-read : (d k t : ℕ) (c : List ℕ) → labelOk d k (t, c) ≡ true → Label d k t c
+unfolding labelOk labelR from
+label-read d k t c h = go (labelR (treeR d) (t, c)) refl h
+  where
+    go : (x : Option (ℕ × List Tree)) → labelR (treeR d) (t, c) ≡ x → from false (λ l. ltb k (l .0)) x ≡ true → Label d k t c
+    go none e h = let z : _≡_ {A = ℕ} 0 1 = cc in absurd (omega arith)
+    go (some l) e h =
+        let u = name-content (treeR d) c l (tagged-some 7 (labelC (treeR d)) (t, c) l e .1) in
+        record { l = l; reads = e; name = u .0; rises = h; room = u .1 }
+
+labels-on : (d k : ℕ) (f : Bytes.Field) (fs : List Bytes.Field) (x : Option (ℕ × List Tree)) → labelR (treeR d) f ≡ x → from false (λ l. ltb k (l .0)) x ≡ false
+    → some? (labelsWith (treeR d) k (f ∷ fs)) ≡ false
+unfolding labelsWith from _>>=_ only some?
+labels-on d k f fs none e h = rw e refl
+labels-on d k f fs (some l) e h = rw (e, h) refl
+
+module _ (s : List ℕ) (at end : ℕ) (within : end ≤ length s) (d k : ℕ) where
+  module _ (t f e : ℕ) (h : headAt s at end ≡ Field t f e) where
+    placed : labelOk d k (t, slice f e s) ≡ labelOk d k (t, slice (at + 3) e s)
+    placed = ap (λ i. labelOk d k (t, slice i e s)) (head-found s at end within t f e h .start)
+
+    pub labels-next : (j : ℕ) → j ≡ labelAt s at → labelOk d k (t, slice (at + 3) e s) ≡ true → labelsOk d k (slice at end s) ≡ labelsOk d j (slice e end s)
+    unfolding labelsOk labelsWith _>>=_ only
+    labels-next j i q =
+        let u = label-read d k t (slice f e s) (placed ∙ q) in
+        let p = head-found s at end within t f e h in
+        let n : length (slice f e s) ≡ e - f = length-slice f e s (omega (arith, p .stop)) in
+        let c : slice f e s ≡ getD s f 0 ∷ slice (suc f) e s = slice-cons f e s 0 (omega (arith, u .room)) (omega (arith, p .stop)) in
+        let y : u .l .0 ≡ j = u .name ∙ (ap (λ b. getD b 0 0) c ∙ (ap (λ i. getD s i 0) (p .start) ∙ sym i)) in
+        inside-next s at end within t f e h (labelsWith (treeR d) k) (labelsWith (treeR d) j)
+        (λ fs. rw (u .reads, u .rises, y) (some-map _ _))
+
+    pub labels-bad : labelOk d k (t, slice (at + 3) e s) ≡ false → labelsOk d k (slice at end s) ≡ false
+    unfolding labelsOk labelOk
+    labels-bad q = inside-bad s at end within t f e h (labelsWith (treeR d) k) (λ fs. labels-on d k (t, slice f e s) fs _ refl (placed ∙ q))
+
+  pub labels-nothing : at < end → headAt s at end ≡ Nothing → labelsOk d k (slice at end s) ≡ false
+  unfolding labelsOk
+  labels-nothing l h = inside-nothing s at end within (labelsWith (treeR d) k) l h
+
+pub labels-end : (s : List ℕ) (at end d k : ℕ) → at ≤ end → end ≤ at → labelsOk d k (slice at end s) ≡ true
+unfolding labelsOk labelsWith some?
+labels-end s at end d k a b = let q : at ≡ end = omega arith in rw q (inside-end (labelsWith (treeR d) k) s end)
+
+-- the label that was read stands in the bytes
+pub label-room : (d k t at to : ℕ) (s : List ℕ) → to ≤ length s → labelOk d k (t, slice (at + 3) to s) ≡ true → at + 4 ≤ to
+label-room d k t at to s within h =
+    let u = label-read d k t (slice (at + 3) to s) h in
+    omega (arith, u .room, length-slice (at + 3) to s within)
+
+-- ---- an array field
+pub array-tag : (d t : ℕ) (c : List ℕ) → (t ≡ 1 → ⊥) → arrayOk d (t, c) ≡ false
+unfolding arrayOk arrayWith tagged only some?
+array-tag d t c n = rw (ne-eqb t 1 n) refl
+
+pub array-trees : (d t : ℕ) (c : List ℕ) → t ≡ 1 → arrayOk d (t, c) ≡ treesOk d c
+unfolding arrayOk treesOk arrayWith tagged only
+array-trees d t c e = rw (eq-eqb t 1 e) refl
+
+-- ---- the public check
+whole : (b : List ℕ) → slice 0 (length b) b ≡ b
+whole b = take-length b
+
+pub array-over : (b : List ℕ) → arrayMax < length b → arrayCheck (readArray b) ≡ Overlong
+unfolding readArray tested
+array-over b l = rw (lt-leb (length b) arrayMax l) refl
+
+check-some : (x : Option (List Tree)) → some? x ≡ true → arrayCheck (wellFormed x) ≡ Accepted
+unfolding some? wellFormed
+check-some none h = let z : _≡_ {A = ℕ} 0 1 = cc in absurd (omega arith)
+check-some (some ts) h = refl
+
+check-none : (x : Option (List Tree)) → some? x ≡ false → arrayCheck (wellFormed x) ≡ Malformed
+unfolding some? wellFormed
+check-none none h = refl
+check-none (some ts) h = let z : _≡_ {A = ℕ} 0 1 = cc in absurd (omega arith)
+
+module _ (b : List ℕ) (fits : length b ≤ arrayMax) where
+  checked : arrayCheck (readArray b) ≡ arrayCheck (wellFormed (inside (one (λ a. a) arrayR) b))
+  unfolding readArray tested decodeArray only
+  checked = rw (le-leb (length b) arrayMax fits) refl
+
+  pub array-accepted : inputOk b ≡ true → arrayCheck (readArray b) ≡ Accepted
+  unfolding inputOk
+  array-accepted k = checked ∙ check-some _ k
+
+  pub array-malformed : inputOk b ≡ false → arrayCheck (readArray b) ≡ Malformed
+  unfolding inputOk
+  array-malformed k = checked ∙ check-none _ k
+
+-- the one field
+module _ (b : List ℕ) where
+  input-whole : inputOk b ≡ some? (inside (one (λ a. a) arrayR) (slice 0 (length b) b))
+  unfolding inputOk
+  input-whole = ap (λ x. some? (inside (one (λ a. a) arrayR) x)) (sym (whole b))
+
+  pub input-field : (t f e : ℕ) → spanAt b 0 (length b) ≡ Field t f e → inputOk b ≡ arrayOk depthMax (t, slice f e b)
+  unfolding arrayOk arrayR
+  input-field t f e h = input-whole ∙ inside-one b 0 (length b) (omega arith) (λ a. a) arrayR t f e h
+
+  pub input-nothing : spanAt b 0 (length b) ≡ Nothing → inputOk b ≡ false
+  unfolding some?
+  input-nothing h = input-whole ∙ ap some? (span-none b 0 (length b) (omega arith) (λ a. a) arrayR (omega arith) h)
+
+-- ---- what an accepted array is
+-- the trees of these bytes: there are some within the limits, and no others
+pub record TheTrees (b : List ℕ) : Type 0 where
+  pub ts : List Tree
+  pub reads : readArray b ≡ accepted ts
+  pub within : Within ts
+  pub form : arrayBytes ts ≡ b
+  pub unique : (us : List Tree) → Within us → arrayBytes us ≡ b → us ≡ ts
+
+accepted-some : (b : List ℕ) (x : Option (List Tree)) (c : Bool) → arrayCheck (cond c (wellFormed x) overlong) ≡ Accepted → (ts : List Tree) × (x ≡ some ts) × (cond c (wellFormed x) overlong ≡ accepted ts)
+unfolding wellFormed
+accepted-some b none true h = let z : _≡_ {A = ℕ} 0 1 = cc in absurd (omega arith)
+accepted-some b (some ts) true h = (ts, refl, refl)
+accepted-some b x false h = let z : _≡_ {A = ℕ} 0 1 = cc in absurd (omega arith)
+
+pub accepted-trees : (b : List ℕ) → AllBytes b → arrayCheck (readArray b) ≡ Accepted → TheTrees b
+unfolding readArray tested
+accepted-trees b all h =
+    let (ts, e, r) = accepted-some b (decodeArray b) (leb (length b) arrayMax) h in
+    let p = array-only b ts all e in
+    record {
+      ts = ts;
+      reads = r;
+      within = p .1;
+      form = p .0;
+      unique = λ us w q. some-equal us ts (sym (array-back us w) ∙ (ap decodeArray q ∙ e));
+    }
+
+-- and no array within the limits is refused
+pub trees-accepted : (ts : List Tree) → Within ts → arrayCheck (readArray (arrayBytes ts)) ≡ Accepted
+unfolding readArray tested wellFormed
+trees-accepted ts w =
+    let l : length (arrayBytes ts) ≤ arrayMax = omega (arith, length-array ts, w .small) in
+    rw (le-leb (length (arrayBytes ts)) arrayMax l, array-back ts w) refl

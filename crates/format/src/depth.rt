@@ -1,0 +1,41 @@
+//! How deep trees are, measured where they stand: a tree alone has depth 1, and those under a label are one deeper.
+ghost use lib.Dec.{leb};
+ghost use Rattle.format.specs.Size.{depthA, depthL};
+ghost use Rattle.format.specs.Stand.{treesBytes, labelsBytes, Holds, Says};
+use crate::area::field_end;
+
+/// Whether the trees that stand from p to e take at most `left` levels.
+pub fn within_depth(s: &[u8], p: usize, e: usize, left: usize) -> bool
+    requires { ⌜ Holds treesBytes (now s) p e ⌝ }
+    ensures { λ r. ⌜ Says treesBytes (λ ts. leb (depthA ts) left) (now (s .entry)) p e r ⌝ }
+{
+    if left == 0 {
+        return p == e;
+    }
+    let mut i = p;
+    while i != e {
+        let m = field_end(s, i);
+        let l = field_end(s, i + 3);
+        if !labels_within(s, l, m, left - 1) {
+            return false;
+        }
+        i = m;
+    }
+    true
+}
+
+/// Whether the trees under the labels that stand from p to e take at most `left` levels.
+fn labels_within(s: &[u8], p: usize, e: usize, left: usize) -> bool
+    requires { ⌜ Holds labelsBytes (now s) p e ⌝ }
+    ensures { λ r. ⌜ Says labelsBytes (λ ls. leb (depthL ls) left) (now (s .entry)) p e r ⌝ }
+{
+    let mut i = p;
+    while i != e {
+        let m = field_end(s, i);
+        if !within_depth(s, i + 7, m, left) {
+            return false;
+        }
+        i = m;
+    }
+    true
+}

@@ -1,0 +1,55 @@
+-- Made from Proof.ans by answers.py, which overwrites this file: edit Proof.ans.
+use borrow.Author.Needs.{needs}
+use mathlib.Core.Path.{_≡_}
+use Prim.Native.Nat.{_≤_, _-_}
+use lib.ListN.{length}
+use Rattle.format_examples.proofs.put_voids.Statement.{statement}
+use Rattle.format_examples.proofs.put_voids.Tie as tie
+use Rattle.format_examples.proofs.put_voids.Reads as reads
+use Rattle.format_examples.proofs.put_voids.Lts as lts
+use Rattle.format_examples.proofs.put_head.Reads as put-head-reads
+
+abbrev Inv-loop : tie.InvT-loop
+Inv-loop b₀ from n at₀ i₀ b at i = (i ≤ n) × (length b ≡ length b₀)
+
+abbrev μ-loop : tie.MeasureT-loop
+μ-loop b₀ from n at₀ i₀ b at i = n - i
+
+loop-holds : tie.Need-loop-holds Inv-loop μ-loop
+loop-holds c = search needs
+
+put-head-requires : tie.Need-put-head-requires Inv-loop μ-loop
+put-head-requires c κs = search needs
+
+put-head-requires-2 : tie.Need-put-head-requires-2 Inv-loop μ-loop
+put-head-requires-2 c κs = search needs
+
+add-i : tie.Need-add-i Inv-loop μ-loop
+add-i c = search needs
+
+loop-less : tie.Need-loop-less Inv-loop μ-loop
+loop-less c = search needs
+
+loop-again : tie.Need-loop-again Inv-loop μ-loop
+loop-again c = search needs
+
+same-length : tie.Need-same-length Inv-loop μ-loop
+same-length c = search needs
+
+returns : tie.Need-returns Inv-loop μ-loop
+returns c = search needs
+
+pub put-voids-spec : {M : Type 1} → statement M
+put-voids-spec =
+    tie.close
+    (tie.spec
+    Inv-loop
+    μ-loop
+    loop-holds
+    put-head-requires
+    put-head-requires-2
+    add-i
+    loop-less
+    loop-again
+    same-length
+    returns)
