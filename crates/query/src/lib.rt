@@ -1,1 +1,7 @@
-//! Only definitions and laws so far: see `specs/`.
+//! Queries as bytes.
+//! What a reader must believe stands in `specs/`; the files here are one idea each.
+pub mod criterion;
+pub mod data;
+pub mod item;
+pub mod path;
+pub mod stage;
