@@ -10,21 +10,9 @@ pub mod Group
 pub mod Lookup
 pub mod Stages
 pub mod Join
-pub mod Walk
-pub mod MergeTwo
-pub mod MergeBytes
 -- Laws.
-pub mod WalkLaws
-pub mod ElementLaws
-pub mod ComparedLaws
-pub mod OperandLaws
 pub mod EqualityLaws
-pub mod SameLaws
-pub mod EqualLaws
 pub mod MergeLaws
-pub mod MergeTwoLaws
-pub mod MergeBytesLaws
-pub mod BuildLaws
 pub mod KeepLaws
 pub mod JoinLaws
 pub mod Examples

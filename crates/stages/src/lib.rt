@@ -1,6 +1,2 @@
-//! What a tree or a list of trees says and becomes in a stage.
-//! What a reader must believe stands in `specs/`; the files here are one idea each.
-pub mod build;
-pub mod equality;
-pub mod merge;
-pub mod path;
+//! What a tree or a list of trees becomes in a stage: definitions and laws only, see `specs/`.
+//! The code stands in `reading` and `writing`, so that each check stays short.

@@ -1,0 +1,118 @@
+-- A path's application, read where the path and the tree stand: what readers of it say, in the terms of the code. The path
+-- stands in q from p to e and is read from its step i on; the tree stands in s from a to b.
+use mathlib.Core.Path.{_≡_}
+use mathlib.Core.List.{List, [], map}
+use mathlib.Core.Bool.{Bool, true, false}
+use mathlib.Core.Option.{none, some}
+use Prim.Native.Nat.{ℕ, _+_, _≤_, _<_}
+use lib.ListN.{length, drop, getD}
+use Rattle.format.specs.declared.labels.Found as labels-found
+use Rattle.format.specs.Tree.{Tree, Trees, list, trees, labels, v, find}
+use Rattle.format.specs.Bytes.{treeBytes}
+use Rattle.format.specs.Area.{Is}
+use Rattle.format.specs.Compare.{sameBytes}
+use Rattle.format.specs.Limits.{depthMax}
+use Rattle.format.specs.Within.{Allowed, AllowedA}
+use Rattle.format.specs.Stand.{treesBytes, Holds, FoundIs}
+use Rattle.query.specs.Query.{Path}
+use Rattle.query.specs.Steps.{stepCount, stepAt}
+use Rattle.reading.specs.declared.path.Element.{Element}
+use Rattle.reading.specs.declared.path.Element.the-variants.{Part, Fewer}
+use Rattle.reading.specs.declared.path.Compared.{Compared}
+use Rattle.reading.specs.declared.path.Compared.the-variants.{At, Differs}
+use Rattle.stages.specs.Paths.{Found, joins, over, apply}
+use Rattle.stages.specs.Equality.{sameFound}
+
+-- a path's content is its labels
+abbrev pub pathBytes : Path → List ℕ
+pathBytes p = p
+
+-- the trees that an application gives: absent gives none
+unfoldable pub given : Found → List Tree
+given none = []
+given (some a) = a
+
+-- their bytes, one behind another
+abbrev pub givenBytes : Found → List ℕ
+givenBytes x = treesBytes (trees (given x))
+
+-- ---- what a walk asks for
+
+-- a path stands there, with i steps or more, and a tree, or the trees of an array, of which f gives the bytes
+pub record Walk {A : Type 0} (f : A → List ℕ) (q : List ℕ) (p e i : ℕ) (s : List ℕ) (a b : ℕ) : Type 0 where
+  pub path : Holds pathBytes q p e
+  pub step : i ≤ stepCount p e
+  pub stands : Holds f s a b
+
+-- ---- what it says, of whatever path and tree stand there
+
+-- P holds of what the path gives of the tree
+abbrev pub Tells : (q : List ℕ) (p e i : ℕ) (s : List ℕ) (a b : ℕ) → (Found → Type 0) → Type 0
+Tells q p e i s a b P = (path : Path) (t : Tree) → Is q p e path → Is s a b (treeBytes t) → P (apply (drop i path) t)
+
+-- P holds of what the path gives over an array
+abbrev pub TellsOver : (q : List ℕ) (p e i : ℕ) (s : List ℕ) (a b : ℕ) → (Found → Type 0) → Type 0
+TellsOver q p e i s a b P = (path : Path) (ts : Trees) → Is q p e path → Is s a b (treesBytes ts) → P (over (apply (drop i path)) (list ts))
+
+-- P holds of what the path gives of each tree, joined: of the trees that are left, in a loop over an array
+abbrev pub TellsJoined : (q : List ℕ) (p e i : ℕ) (s : List ℕ) (a b : ℕ) → (Found → Type 0) → Type 0
+TellsJoined q p e i s a b P = (path : Path) (ts : Trees) → Is q p e path → Is s a b (treesBytes ts) → P (joins (map (apply (drop i path)) (list ts)))
+
+-- the answer to a search for the label of step i among the labels of the tree
+abbrev pub Under : (q : List ℕ) (p i : ℕ) (s : List ℕ) (a b : ℕ) → labels-found.Found → Type 0
+Under q p i s a b r = (t : Tree) → Is s a b (treeBytes t) → FoundIs s a b (find (stepAt q p i) (labels t)) r
+
+-- ---- the answers
+
+-- tree j of xs stands from f to t, between a and b
+pub record PartIs (s : List ℕ) (a b j : ℕ) (xs : List Tree) (f t : ℕ) : Type 0 where
+  pub below : j < length xs
+  pub tree-is : Is s f t (treeBytes (getD xs j v))
+  pub after : a ≤ f
+  pub within : t ≤ b
+
+-- where tree j of xs stands, or what is left of j when all of xs are passed
+pub record ElementIs (s : List ℕ) (a b j : ℕ) (xs : List Tree) (r : Element) : Type 0 where
+  pub part : (f t : ℕ) → r ≡ Part f t → PartIs s a b j xs f t
+  pub fewer : (n : ℕ) → r ≡ Fewer n → j ≡ length xs + n
+
+-- whether xs stands in o from `at` on, and where it ends
+pub record ComparedIs (o : List ℕ) (at : ℕ) (xs : List ℕ) (r : Compared) : Type 0 where
+  pub same : (n : ℕ) → r ≡ At n → Is o at n xs
+  pub differs : r ≡ Differs → (n : ℕ) → Is o at n xs → ⊥
+
+-- ---- an array that stands in one piece
+
+-- the trees of a literal's array, which stand in the query from p to e; or what a path of at most one label gives
+pub record Operand (literal : Bool) (q : List ℕ) (p e : ℕ) (s : List ℕ) (a b : ℕ) : Type 0 where
+  pub array : literal ≡ true → Holds treesBytes q p e
+  pub path : literal ≡ false → Walk treeBytes q p e 0 s a b
+  pub short : literal ≡ false → stepCount p e ≤ 1
+
+-- r is that array's bytes
+pub record OperandIs (literal : Bool) (q : List ℕ) (p e : ℕ) (s : List ℕ) (a b : ℕ) (r : List ℕ) : Type 0 where
+  pub array : literal ≡ true → (ts : Trees) → Is q p e (treesBytes ts) → r ≡ treesBytes ts
+  pub path : literal ≡ false → Tells q p e 0 s a b (λ x. r ≡ givenBytes x)
+
+-- ---- two applications
+
+-- P holds of what one path gives of one tree and another, in the same query, of another tree
+abbrev pub TellsBoth : (q : List ℕ) (p e p2 e2 : ℕ) (s : List ℕ) (a b : ℕ) (s2 : List ℕ) (a2 b2 : ℕ) → (Found → Found → Type 0) → Type 0
+TellsBoth q p e p2 e2 s a b s2 a2 b2 P = Tells q p e 0 s a b (λ x. Tells q p2 e2 0 s2 a2 b2 (P x))
+
+-- r is whether tree j of the one is tree j of the other, if both have so many
+abbrev pub SameNth : ℕ → Bool → Found → Found → Type 0
+SameNth j r x y = j < length (given x) → j < length (given y) → r ≡ sameBytes (treeBytes (getD (given x) j v)) (treeBytes (getD (given y) j v))
+
+-- r is whether the path gives the literal's array, of whatever path, allowed tree and allowed array stand there
+abbrev pub EqualsLiteral : (q : List ℕ) (p e lit end : ℕ) (s : List ℕ) (a b : ℕ) → Bool → Type 0
+EqualsLiteral q p e lit end s a b r =
+    (path : Path) (array : List Tree) (t : Tree) → Is q p e path → AllowedA array → Is q lit end (treesBytes (trees array))
+    → Allowed depthMax t → Is s a b (treeBytes t) → r ≡ sameFound (apply path t) (some array)
+
+-- r is whether the two applications are equal, of whatever paths and allowed trees stand there
+abbrev pub EqualPaths : (q : List ℕ) (p e p2 e2 : ℕ) (s : List ℕ) (a b : ℕ) (s2 : List ℕ) (a2 b2 : ℕ) → Bool → Type 0
+EqualPaths q p e p2 e2 s a b s2 a2 b2 r =
+    (path path2 : Path) (t u : Tree) → Is q p e path → Is q p2 e2 path2
+    → Allowed depthMax t → Is s a b (treeBytes t) → Allowed depthMax u → Is s2 a2 b2 (treeBytes u)
+    → r ≡ sameFound (apply path t) (apply path2 u)
