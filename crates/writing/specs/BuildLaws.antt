@@ -15,7 +15,7 @@ use Rattle.format.specs.Limits.{treeMax, depthMax, workMin}
 use Rattle.format.specs.Tree.{Tree, ε, _▹_, v}
 use Rattle.format.specs.Size.{size, depth, depthA, fits}
 use Rattle.format.specs.SizeLaws.{length-tree}
-use Rattle.format.specs.Bytes.{fieldBytes, bytes, rootF, treeF, treeBytes}
+use Rattle.format.specs.Bytes.{fieldBytes, bytes, treeF, treeBytes}
 use Rattle.format.specs.Within.{Ok}
 use Rattle.format.specs.Area.{Is, Fitted, Wrote}
 use Rattle.format.specs.AreaLaws.{is-keep, told, fitted-keep, fitted-is, wrote-keep, written, wrote-grew, grew-moved}
@@ -45,11 +45,6 @@ module _ {w u : List ℕ} {s ie : ℕ} {x y : Tree} {r : Out} (h : PartAdded w u
 pub added-one : {w u : List ℕ} {s ie : ℕ} {x y : Tree} {r : Out} {e : ℕ} → PartAdded w u s ie x y r → r ≡ At e → build x (y ∷ []) ≡ some (merge x y)
 unfolding build
 added-one h q = added-next h [] q
-
--- ---- the bare void tree
-pub void-bytes : treeBytes v ≡ 2 ∷ 0 ∷ 3 ∷ 3 ∷ 0 ∷ 0 ∷ []
-unfolding treeBytes treeF rootF bytes fieldBytes
-void-bytes = refl
 
 -- ---- a well formed tree that stands there
 pub standing-keep : {w u : List ℕ} {p e d : ℕ} → Standing w p e → take d u ≡ take d w → e ≤ d → Standing u p e

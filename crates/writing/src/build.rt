@@ -1,28 +1,11 @@
 //! Building a tree by merging parts, each tested: what a project does with its items, a group with its pairs and a lookup
 //! with its place. The tree so far stands at s; a part is written above it, with room for one tree, and added.
-ghost use Prim.Native.Nat.{_≤_};
-ghost use lib.ListN.{length};
-ghost use Rattle.format.specs.Tree.{v};
-ghost use Rattle.format.specs.Bytes.{treeBytes};
-ghost use Rattle.format.specs.Area.{Wrote};
 ghost use Rattle.writing.specs.MergeBytes.{Addable, Added};
 use crate::merge::merge_tree;
 use format::area::Out;
-use format::area::copy_in;
 use format::area::move_down;
 use format::depth::within_depth;
 use format::limits::Limits;
-
-/// The bare void tree: a tree field that holds a void root.
-const VOID: [u8; 6] = [2, 0, 3, 3, 0, 0];
-
-/// Writes the bare void tree, with which a project and a group begin, at d.
-pub fn put_void(w: &mut [u8], d: usize, stop: usize) -> Out
-    requires { ⌜ (d ≤ stop) × (stop ≤ length (now w)) ⌝ }
-    ensures { λ r. ⌜ Wrote (now (w .entry)) (now (w .exit)) d stop (treeBytes v) r ⌝ }
-{
-    copy_in(w, &VOID, d, stop)
-}
 
 /// Adds the part from i to ie to the tree from s to se, which stands below it, and answers where their merge ends.
 /// It is made above the part, where it may still be too large, and then moved down to s.
