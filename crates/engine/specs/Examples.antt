@@ -10,13 +10,13 @@ use Rattle.query.specs.Query.{always, negated, match, unwind, group, lookup}
 use Rattle.query.specs.Bytes.{queryBytes}
 use Rattle.stages.specs.Examples.{ran}
 use Rattle.engine.specs.Refusal.{numberOf, leave, workLeft, resultLeft}
-use Rattle.engine.specs.Run.{reading, final, ending, Outcome, outcomeIn, plainRun, workAfter, checkNumber, queryNumber, arrayNumber}
+use Rattle.engine.specs.Run.{reading, final, ending, Outcome, outcomeIn, plainRun, workAfter, checkNumber, checkedQuery, checkedArray}
 use Rattle.engine.specs.Program.{headed, digit, hex, decimal, refusedText, shown, answered, program}
 
 -- The plain run: query, input, joined array, the length of the work area, the result area. Under this name all definitions
 -- of this crate and of those below compute.
 unfoldable abbrev pub answer : List ℕ → List ℕ → List ℕ → ℕ → List ℕ → Outcome
-unfolding ran numberOf leave workLeft resultLeft reading final ending outcomeIn plainRun workAfter checkNumber queryNumber arrayNumber headed digit hex decimal refusedText shown answered program
+unfolding ran numberOf leave workLeft resultLeft reading final ending outcomeIn plainRun workAfter checkNumber checkedQuery checkedArray headed digit hex decimal refusedText shown answered program
 answer q i j work area = plainRun q i j work area
 
 -- ---- arguments, and what a row says of them

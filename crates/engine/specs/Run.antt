@@ -76,8 +76,8 @@ checkNumber (accepted a) r s = 0
 checkNumber overlong r s = numberOf r
 checkNumber malformed r s = numberOf s
 
-unfoldable pub queryNumber : List ℕ → ℕ
-queryNumber q = checkNumber (readQuery q) queryLong queryMalformed
+unfoldable pub checkedQuery : List ℕ → ℕ
+checkedQuery q = checkNumber (readQuery q) queryLong queryMalformed
 
-unfoldable pub arrayNumber : List ℕ → ℕ
-arrayNumber b = checkNumber (readArray b) inputLong inputMalformed
+unfoldable pub checkedArray : List ℕ → ℕ
+checkedArray b = checkNumber (readArray b) inputLong inputMalformed

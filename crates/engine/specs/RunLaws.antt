@@ -18,11 +18,13 @@ use Rattle.format.specs.OptionLaws.{leb-yes, T-and}
 use Rattle.format.specs.ArrayLaws.{array-only, read-array}
 use Rattle.query.specs.Query.{Stage}
 use Rattle.query.specs.Decode.{readQuery}
+use Rattle.format.specs.Check.{arrayCheck, arrayNumber}
+use Rattle.query.specs.Check.{queryCheck, queryNumber}
 use Rattle.query.specs.QueryLaws.{query-only, read-query}
 use Rattle.stages.specs.Stages.{State, going, large, long, stages}
 use Rattle.stages.specs.KeepLaws.{stages-allowed}
 use Rattle.engine.specs.Refusal.{Refusal, workShort, queryLong, queryMalformed, inputLong, inputMalformed, joinedLong, joinedMalformed, treeLarge, groupLong, resultLong, numberOf}
-use Rattle.engine.specs.Run.{Ending, gives, refused, reading, final, ending, outcomeIn, plainRun, Accepts, resultBytes}
+use Rattle.engine.specs.Run.{Ending, gives, refused, reading, final, ending, outcomeIn, plainRun, Accepts, resultBytes, checkNumber, checkedQuery, checkedArray}
 
 -- what an accepted run has read, and the list that it gives
 pub record Read (q i j : List ℕ) (work room : ℕ) (ss : List Stage) (ts us fs : List Tree) : Type 0 where
@@ -125,3 +127,22 @@ accepted-within q i j work room ss ts us fs bq bi bj r =
     let w = array-only i ts bi (read-array i ts .0 (r .input)) .1 in
     let k = array-only j us bj (read-array j us .0 (r .joined)) .1 in
     record { allowed = stages-allowed us ss ts fs (k .allowed) (o .stages) (w .allowed) (r .ran); small = r .small }
+
+-- ---- the answers of the public checks have the table's numbers
+pub checked-array : (b : List ℕ) → arrayNumber (arrayCheck (readArray b)) ≡ checkedArray b
+unfolding checkedArray checkNumber numberOf
+checked-array b = go (readArray b)
+  where
+    go : (x : Tested (List Tree)) → arrayNumber (arrayCheck x) ≡ checkNumber x inputLong inputMalformed
+    go (accepted ts) = refl
+    go overlong = refl
+    go malformed = refl
+
+pub checked-query : (b : List ℕ) → queryNumber (queryCheck (readQuery b)) ≡ checkedQuery b
+unfolding checkedQuery checkNumber numberOf
+checked-query b = go (readQuery b)
+  where
+    go : (x : Tested (List Stage)) → queryNumber (queryCheck x) ≡ checkNumber x queryLong queryMalformed
+    go (accepted ss) = refl
+    go overlong = refl
+    go malformed = refl
