@@ -170,6 +170,11 @@ abbrev Each : (ℕ → Type 0) → ℕ → ℕ → Type 0
 Each P k zero = Unit {0}
 Each P k (suc n) = P k × Each P (suc k) n
 
+-- one after another
+infixr 20 _also_
+_also_ : {A B : Type 0} → A → B → A × B
+_also_ a b = (a, b)
+
 each-has : (P : ℕ → Type 0) (n k : ℕ) → Each P k n → (i : ℕ) → i < n → P (k + i)
 each-has P zero k e i l = absurd (omega arith)
 each-has P (suc n) k e zero l = rw (add-zero k) (e .0)
@@ -178,160 +183,46 @@ each-has P (suc n) k e (suc i) l = let q : k + suc i ≡ suc k + i = omega arith
 -- over the whole table: at each tag both sides compute, and the shape's law joins them
 agreement : Each Agrees 0 52
 unfolding fieldOk arrayR arrayWith tagged only queryR stageR among chosen pathR criterionOk criterionR dataOk dataR divisorR itemR pairR pairsR some? byTable deeper nested leaf ruleAt
-agreement = (
-  no-tag,
-  (
-    leaf-agrees 1 refl,
-    (
-      no-tag,
-      (
-        no-tag,
-        (
-          no-tag,
-          (
-            no-tag,
-            (
-              no-tag,
-              (
-                no-tag,
-                (
-                  no-tag,
-                  (
-                    no-tag,
-                    (
-                      no-tag,
-                      (
-                        no-tag,
-                        (
-                          no-tag,
-                          (
-                            no-tag,
-                            (
-                              no-tag,
-                              (
-                                no-tag,
-                                (
-                                  λ l d. many-ok (λ ss. ss) 0 stagesMax (stage-reads nestMax),
-                                  (
-                                    λ l d. one-ok match (criterion-reads nestMax),
-                                    (
-                                      λ l d. one-ok unwind (path-reads nestMax),
-                                      (
-                                        λ l d. many-ok project 1 itemsMax (item-reads nestMax),
-                                        (
-                                          λ l d. two-ok group (aggregates-reads nestMax) (grouping-reads nestMax),
-                                          (
-                                            λ l d. three-ok lookup (path-reads nestMax) (path-reads nestMax) (given-reads nestMax),
-                                            (
-                                              no-tag,
-                                              (
-                                                no-tag,
-                                                (
-                                                  no-tag,
-                                                  (
-                                                    no-tag,
-                                                    (
-                                                      no-tag,
-                                                      (
-                                                        no-tag,
-                                                        (
-                                                          no-tag,
-                                                          (
-                                                            no-tag,
-                                                            (
-                                                              no-tag,
-                                                              (
-                                                                no-tag,
-                                                                (
-                                                                  leaf-agrees 32 refl,
-                                                                  (
-                                                                    nested-agrees 33 (λ c. refl) (λ d. none-ok (fieldOk d) always),
-                                                                    (
-                                                                      nested-agrees 34 (λ c. refl) (λ d. one-ok exists (path-reads d)),
-                                                                      (
-                                                                        nested-agrees 35 (λ c. refl) (λ d. two-ok equal (path-reads d) (array-reads d)),
-                                                                        (
-                                                                          nested-agrees 36 (λ c. refl) (λ d. two-ok same (path-reads d) (path-reads d)),
-                                                                          (
-                                                                            nested-agrees 37 (λ c. refl) (λ d. one-ok negated (criterion-reads d)),
-                                                                            (
-                                                                              nested-agrees 38 (λ c. refl) (λ d. two-ok both (criterion-reads d) (criterion-reads d)),
-                                                                              (
-                                                                                nested-agrees 39 (λ c. refl) (λ d. two-ok either (criterion-reads d) (criterion-reads d)),
-                                                                                (
-                                                                                  nested-agrees 40 (λ c. refl) (λ d. one-ok literal (array-reads d)),
-                                                                                  (
-                                                                                    nested-agrees 41 (λ c. refl) (λ d. one-ok path (path-reads d)),
-                                                                                    (
-                                                                                      nested-agrees 42 (λ c. refl) (λ d. many-ok (λ ds. listed (datas ds)) 1 membersMax (data-reads d)),
-                                                                                      (
-                                                                                        nested-agrees 43 (λ c. refl) (λ d. one-ok test (criterion-reads d)),
-                                                                                        (
-                                                                                          nested-agrees 44 (λ c. refl) (λ d. three-ok choice (criterion-reads d) (data-reads d) (data-reads d)),
-                                                                                          (
-                                                                                            nested-agrees 45 (λ c. refl) (λ d. two-ok reduced (path-reads d) (divisor-reads d)),
-                                                                                            (
-                                                                                              leaf-agrees 46 refl,
-                                                                                              (
-                                                                                                λ l d. one-ok keep (path-reads nestMax),
-                                                                                                (
-                                                                                                  λ l d. two-ok place (data-reads nestMax) (given-reads nestMax),
-                                                                                                  (
-                                                                                                    λ l d. two-ok pairOf (path-reads nestMax) (given-reads nestMax),
-                                                                                                    (
-                                                                                                      λ l d. many-ok (λ ps. ps) 0 aggregatesMax (pair-reads nestMax),
-                                                                                                      (λ l d. many-ok (λ ps. ps) 0 groupingMax (pair-reads nestMax), tt),
-                                                                                                    ),
-                                                                                                  ),
-                                                                                                ),
-                                                                                              ),
-                                                                                            ),
-                                                                                          ),
-                                                                                        ),
-                                                                                      ),
-                                                                                    ),
-                                                                                  ),
-                                                                                ),
-                                                                              ),
-                                                                            ),
-                                                                          ),
-                                                                        ),
-                                                                      ),
-                                                                    ),
-                                                                  ),
-                                                                ),
-                                                              ),
-                                                            ),
-                                                          ),
-                                                        ),
-                                                      ),
-                                                    ),
-                                                  ),
-                                                ),
-                                              ),
-                                            ),
-                                          ),
-                                        ),
-                                      ),
-                                    ),
-                                  ),
-                                ),
-                              ),
-                            ),
-                          ),
-                        ),
-                      ),
-                    ),
-                  ),
-                ),
-              ),
-            ),
-          ),
-        ),
-      ),
-    ),
-  ),
-)
+agreement =
+    -- 0 to 15
+    no-tag
+    also leaf-agrees 1 refl
+    also no-tag also no-tag also no-tag also no-tag also no-tag also no-tag also no-tag also no-tag also no-tag also no-tag also no-tag also no-tag also no-tag also no-tag
+    -- 16 to 21: the query, and the stages
+    also (λ l d. many-ok (λ ss. ss) 0 stagesMax (stage-reads nestMax))
+    also (λ l d. one-ok match (criterion-reads nestMax))
+    also (λ l d. one-ok unwind (path-reads nestMax))
+    also (λ l d. many-ok project 1 itemsMax (item-reads nestMax))
+    also (λ l d. two-ok group (aggregates-reads nestMax) (grouping-reads nestMax))
+    also (λ l d. three-ok lookup (path-reads nestMax) (path-reads nestMax) (given-reads nestMax))
+    -- 22 to 31
+    also no-tag also no-tag also no-tag also no-tag also no-tag also no-tag also no-tag also no-tag also no-tag also no-tag
+    -- 32: paths
+    also leaf-agrees 32 refl
+    -- 33 to 39: criteria
+    also nested-agrees 33 (λ c. refl) (λ d. none-ok (fieldOk d) always)
+    also nested-agrees 34 (λ c. refl) (λ d. one-ok exists (path-reads d))
+    also nested-agrees 35 (λ c. refl) (λ d. two-ok equal (path-reads d) (array-reads d))
+    also nested-agrees 36 (λ c. refl) (λ d. two-ok same (path-reads d) (path-reads d))
+    also nested-agrees 37 (λ c. refl) (λ d. one-ok negated (criterion-reads d))
+    also nested-agrees 38 (λ c. refl) (λ d. two-ok both (criterion-reads d) (criterion-reads d))
+    also nested-agrees 39 (λ c. refl) (λ d. two-ok either (criterion-reads d) (criterion-reads d))
+    -- 40 to 45: data
+    also nested-agrees 40 (λ c. refl) (λ d. one-ok literal (array-reads d))
+    also nested-agrees 41 (λ c. refl) (λ d. one-ok path (path-reads d))
+    also nested-agrees 42 (λ c. refl) (λ d. many-ok (λ ds. listed (datas ds)) 1 membersMax (data-reads d))
+    also nested-agrees 43 (λ c. refl) (λ d. one-ok test (criterion-reads d))
+    also nested-agrees 44 (λ c. refl) (λ d. three-ok choice (criterion-reads d) (data-reads d) (data-reads d))
+    also nested-agrees 45 (λ c. refl) (λ d. two-ok reduced (path-reads d) (divisor-reads d))
+    -- 46: divisors
+    also leaf-agrees 46 refl
+    -- 47 to 51: items, pairs, aggregates and grouping
+    also (λ l d. one-ok keep (path-reads nestMax))
+    also (λ l d. two-ok place (data-reads nestMax) (given-reads nestMax))
+    also (λ l d. two-ok pairOf (path-reads nestMax) (given-reads nestMax))
+    also (λ l d. many-ok (λ ps. ps) 0 aggregatesMax (pair-reads nestMax))
+    also (λ l d. many-ok (λ ps. ps) 0 groupingMax (pair-reads nestMax))
+    also tt
 
 -- above it
 above-agrees : (t : ℕ) → 52 ≤ t → Agrees t

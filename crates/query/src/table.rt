@@ -1,5 +1,6 @@
-//! The table: for each tag the tags that may stand inside it, in which order and how many. It is one constant, which the
-//! checker consults, so that what a query is made of is said in one place.
+//! The table: for each tag the tags that may stand inside it, in which order and how many. It is one constant, `RULES`,
+//! which the checker consults, so that what a query is made of is said in one place. Its rows name kinds of children by
+//! number: a table of structs in structs takes the prover minutes, and this one seconds.
 use format::limits::Limits;
 ghost use mathlib.Core.Path.{_≡_};
 ghost use Rattle.query.specs.Table.{allowed, kindAt, childAt, ruleAt};
@@ -11,7 +12,7 @@ pub struct Child(pub u8, pub u8, pub u8);
 /// count.
 pub struct Rule(pub u8, pub u8, pub u8, pub u8, pub u8);
 
-// The kinds of children, which are places of `KINDS`.
+// The kinds of children: their places in `KINDS`.
 const NONE: u8 = 0;
 
 const ARRAY: u8 = 1;
@@ -37,19 +38,31 @@ const AGGREGATES: u8 = 10;
 
 const GROUPING: u8 = 11;
 
-/// By kind. No tag is 1 to 0.
+/// By kind.
 const KINDS: [Child; 12] = [
+    // none: no tag is 1 to 0
     Child(1, 0, 0),
+    // array
     Child(1, 1, 0),
+    // stage
     Child(17, 21, 0),
+    // path
     Child(32, 32, 0),
+    // path not empty
     Child(32, 32, 1),
+    // criterion
     Child(33, 39, 0),
+    // data
     Child(40, 45, 0),
+    // divisor
     Child(46, 46, 0),
+    // item
     Child(47, 48, 0),
+    // pair
     Child(49, 49, 0),
+    // aggregates
     Child(50, 50, 0),
+    // grouping
     Child(51, 51, 0),
 ];
 

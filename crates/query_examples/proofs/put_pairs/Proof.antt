@@ -1,0 +1,61 @@
+-- Made from Proof.ans by answers.py, which overwrites this file: edit Proof.ans.
+use borrow.Author.Needs.{needs}
+use mathlib.Core.Path.{_≡_}
+use Prim.Native.Nat.{_≤_, _-_}
+use lib.ListN.{length}
+use Rattle.query_examples.proofs.put_pairs.Statement.{statement}
+use Rattle.query_examples.proofs.put_pairs.Tie as tie
+use Rattle.query_examples.proofs.put_pairs.Reads as reads
+use Rattle.query_examples.proofs.put_pairs.Lts as lts
+use Rattle.query_examples.proofs.close.Reads as close-reads
+use Rattle.query_examples.proofs.open.Reads as open-reads
+use Rattle.query_examples.proofs.put_pair.Reads as put-pair-reads
+
+abbrev Inv-loop : tie.InvT-loop
+Inv-loop b₀ at tag n end₀ i₀ b end i = (i ≤ n) × (length b ≡ length b₀)
+
+abbrev μ-loop : tie.MeasureT-loop
+μ-loop b₀ at tag n end₀ i₀ b end i = n - i
+
+open-requires : tie.Need-open-requires Inv-loop μ-loop
+open-requires c κs = search needs
+
+loop-holds : tie.Need-loop-holds Inv-loop μ-loop
+loop-holds c = search needs
+
+put-pair-requires : tie.Need-put-pair-requires Inv-loop μ-loop
+put-pair-requires c κs = search needs
+
+add-i : tie.Need-add-i Inv-loop μ-loop
+add-i c = search needs
+
+loop-less : tie.Need-loop-less Inv-loop μ-loop
+loop-less c = search needs
+
+loop-again : tie.Need-loop-again Inv-loop μ-loop
+loop-again c = search needs
+
+close-requires : tie.Need-close-requires Inv-loop μ-loop
+close-requires c κs = search needs
+
+same-length : tie.Need-same-length Inv-loop μ-loop
+same-length c = search needs
+
+returns : tie.Need-returns Inv-loop μ-loop
+returns c = search needs
+
+pub put-pairs-spec : {M : Type 1} → statement M
+put-pairs-spec =
+    tie.close
+    (tie.spec
+    Inv-loop
+    μ-loop
+    open-requires
+    loop-holds
+    put-pair-requires
+    add-i
+    loop-less
+    loop-again
+    close-requires
+    same-length
+    returns)
