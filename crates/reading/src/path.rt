@@ -31,7 +31,7 @@ pub enum Compared {
 }
 
 /// Where the trees stand that the tree from a to b holds under the label of step i of the path at p.
-fn under(q: &[u8], p: usize, i: usize, s: &[u8], a: usize, b: usize) -> Found
+pub fn under(q: &[u8], p: usize, i: usize, s: &[u8], a: usize, b: usize) -> Found
     requires { ⌜ (p + i < length (now q)) × Holds treeBytes (now s) a b ⌝ }
     ensures { λ r. ⌜ Under (now (q .entry)) p i (now (s .entry)) a b r ⌝ }
 {

@@ -1,7 +1,5 @@
-//! What a tree becomes: writers in one lent work area.
+//! What a tree becomes along a path, written into one lent work area: place, keep, unwind.
 //! The definitions are those of crate `stages`; `specs/` here has the contracts and their laws.
-pub mod build;
 pub mod keep;
-pub mod merge;
 pub mod place;
 pub mod unwind;

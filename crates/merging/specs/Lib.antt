@@ -1,0 +1,7 @@
+-- Definitions.
+pub mod MergeBytes
+pub mod MergeTwo
+-- Laws.
+pub mod BuildLaws
+pub mod MergeBytesLaws
+pub mod MergeTwoLaws
