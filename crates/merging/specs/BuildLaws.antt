@@ -6,7 +6,6 @@ use mathlib.Core.Option.{none, some}
 use Prim.Native.Nat.{ℕ, _+_, _-_, _≤_, _<_}
 use native.Mathlib.Omega.{arith}
 use lib.ListN.{length, take, drop}
-use lib.Seq.{take-take}
 use lib.Dec.{leb}
 use borrow.Author.Tests.{le-leb, lt-leb}
 use Rattle.format.specs.declared.area.Out.{Out}
@@ -18,7 +17,7 @@ use Rattle.format.specs.SizeLaws.{length-tree}
 use Rattle.format.specs.Bytes.{fieldBytes, bytes, treeF, treeBytes}
 use Rattle.format.specs.Within.{Ok}
 use Rattle.format.specs.Area.{Is, Fitted, Wrote}
-use Rattle.format.specs.AreaLaws.{is-keep, told, fitted-keep, fitted-is, wrote-keep, written, wrote-grew, grew-moved}
+use Rattle.format.specs.AreaLaws.{take-less, is-keep, told, fitted-keep, fitted-is, wrote-keep, written, wrote-grew, grew-moved}
 use Rattle.format.specs.Stand.{treesBytes, Holds, Says}
 use Rattle.stages.specs.Merge.{merge, build}
 use Rattle.stages.specs.KeepLaws.{merge-ok}
@@ -112,9 +111,6 @@ fits-not t b = ap (λ x. x && leb (depth t) depthMax) (lt-leb (size t) treeMax b
 
 both : {a b x y : Bool} → a ≡ x → b ≡ y → (a && b) ≡ (x && y)
 both p q = ap₂ _&&_ p q
-
-take-less : (w u : List ℕ) (d e : ℕ) → d ≤ e → take e u ≡ take e w → take d u ≡ take d w
-take-less w u d e b h = sym (take-take d e u b) ∙ ap (take d) h ∙ take-take d e w b
 
 refused : {w u : List ℕ} {s ie : ℕ} {x y : Tree} → (fits y && fits (merge x y)) ≡ false → take s u ≡ take s w
     → ((top : ℕ) → ie + treeMax ≤ top → drop top u ≡ drop top w) → PartAdded w u s ie x y TooLarge

@@ -6,12 +6,12 @@ use mathlib.Core.Logic.{_↔_}
 use mathlib.Core.Option.{none, some}
 use Prim.Native.Nat.{ℕ, _+_, _-_, _≤_, _<_}
 use native.Mathlib.Omega.{arith}
-use lib.ListN.{length, take, drop, length-append, length-take, length-drop}
-use lib.Seq.{slice, length-slice, take-add, drop-append-le, length-take-le, slice-empty}
+use lib.ListN.{length, take, drop, length-take, length-drop}
+use lib.Seq.{slice, length-slice, slice-empty}
 use Rattle.format.specs.Tree.{Tree, trees}
 use Rattle.format.specs.Bytes.{fieldBytes, bytes, treeF, treeFs, treeBytes}
 use Rattle.format.specs.Area.{Is, fieldEnd}
-use Rattle.format.specs.AreaLaws.{is-part, is-left, is-right}
+use Rattle.format.specs.AreaLaws.{is-part, is-left, is-right, is-join}
 use Rattle.format.specs.Stand.{treesBytes, Holds}
 use Rattle.format.specs.Compare.{sameBytes}
 use Rattle.format.specs.CompareLaws.{equal-same, same-equal}
@@ -29,19 +29,6 @@ is-slice {w} {p} {e} l u = record { lies = refl; ends = omega (arith, length-sli
 
 pub is-none : {w : List ℕ} {p : ℕ} → p ≤ length w → Is w p p []
 is-none {w} {p} l = record { lies = slice-empty p w; ends = omega arith; inside = l }
-
--- two parts, one behind the other, are one
-pub is-join : {w : List ℕ} {p m e : ℕ} {xs ys : List ℕ} → Is w p m xs → Is w m e ys → Is w p e (xs ++ ys)
-is-join {w} {p} {m} {e} {xs} {ys} h k =
-    let q : m + length ys ≡ e = omega (arith, k .ends) in
-    let d : length ys ≡ e - m = omega (arith, k .ends) in
-    let c : take e w ≡ take m w ++ ys =
-    ap (λ n. take n w) (sym q) ∙ take-add m (length ys) w ∙ ap (λ l. take m w ++ l) (ap (λ n. take n (drop m w)) d ∙ is-part k) in
-    record {
-      lies = ap (drop p) c ∙ drop-append-le p (take m w) ys (omega (arith, length-take-le m w (h .inside), h .ends)) ∙ ap (λ l. l ++ ys) (h .lies);
-      ends = omega (arith, h .ends, k .ends, length-append xs ys);
-      inside = k .inside;
-    }
 
 -- equal bytes stand at equal places
 pub is-same : {w : List ℕ} {p e : ℕ} {xs ys : List ℕ} → xs ≡ ys → Is w p e xs → Is w p e ys

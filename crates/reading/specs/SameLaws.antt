@@ -4,9 +4,9 @@ use mathlib.Core.List.{List, [], _∷_, _++_, map}
 use mathlib.Core.Bool.{Bool, true, false, not}
 use mathlib.Core.Logic.{_↔_}
 use mathlib.Core.Option.{none, some}
-use Prim.Native.Nat.{ℕ, zero, suc, _≤_, _<_}
+use Prim.Native.Nat.{ℕ, suc, _≤_, _<_}
 use native.Mathlib.Omega.{arith}
-use lib.ListN.{length, getD, length-map}
+use lib.ListN.{length, getD, length-map, List·getD-map}
 use lib.Dec.{eqb}
 use Rattle.format.specs.Options.{_>>=_}
 use Rattle.format.specs.Lists.{each}
@@ -121,14 +121,9 @@ fields-equal xs ys q =
 pub length-equal : (xs ys : List Tree) → treesBytes (trees xs) ≡ treesBytes (trees ys) → length xs ≡ length ys
 length-equal xs ys q = sym (length-map xs treeF) ∙ ap length (fields-equal xs ys q) ∙ length-map ys treeF
 
-getD-map : (xs : List Tree) (k : ℕ) → getD (map treeF xs) k (treeF v) ≡ treeF (getD xs k v)
-getD-map [] k = refl
-getD-map (t ∷ ts) zero = refl
-getD-map (t ∷ ts) (suc k) = getD-map ts k
-
 pub element-equal : (xs ys : List Tree) (k : ℕ) → treesBytes (trees xs) ≡ treesBytes (trees ys) → treeBytes (getD xs k v) ≡ treeBytes (getD ys k v)
 unfolding treeBytes
-element-equal xs ys k q = ap fieldBytes (sym (getD-map xs k) ∙ ap (λ l. getD l k (treeF v)) (fields-equal xs ys q) ∙ getD-map ys k)
+element-equal xs ys k q = ap fieldBytes (sym (List·getD-map treeF xs k v) ∙ ap (λ l. getD l k (treeF v)) (fields-equal xs ys q) ∙ List·getD-map treeF ys k v)
 
 pub elements-equal : (xs ys : List Tree) → length xs ≡ length ys → ((k : ℕ) → k < length xs → treeBytes (getD xs k v) ≡ treeBytes (getD ys k v))
     → treesBytes (trees xs) ≡ treesBytes (trees ys)

@@ -1,28 +1,25 @@
 -- Laws of a label's entry, of counting outcomes, of trees written around a content, and of the outcome that comes j-th.
-use mathlib.Core.Path.{_≡_, refl, sym, ap, ap₂, subst, _∙_}
+use mathlib.Core.Path.{_≡_, refl, sym, ap, subst, _∙_}
 use mathlib.Core.List.{List, [], _∷_, _++_, map, append-assoc}
-use mathlib.Core.Bool.{Bool, true, false}
-use mathlib.Core.Option.{Option, none, some}
-use Prim.Native.Nat.{ℕ, zero, suc, _+_, _-_, _≤_, _<_}
-use native.Mathlib.Nat.{add-assoc}
+use mathlib.Core.Option.{some}
+use Prim.Native.Nat.{ℕ, _+_, _-_, _≤_, _<_}
 use native.Mathlib.Omega.{arith}
 use lib.ListN.{length, take, drop, getD, length-append, List·getD-append}
-use lib.Seq.{slice, slice-empty, take-take, take-add, drop-append-le, length-take-le, getD-append-add}
-use lib.Dec.{eqb}
+use lib.Seq.{slice, slice-empty, take-take, getD-append-add}
 use Rattle.format.specs.declared.area.Out.{Out}
 use Rattle.format.specs.declared.area.Out.the-variants.{At, TooLarge}
 use Rattle.format.specs.declared.labels.Found.{Found}
 use Rattle.format.specs.declared.labels.Found.the-variants.{Part, Missing}
 use Rattle.format.specs.Lists.{gather}
 use Rattle.format.specs.Limits.{treeMax, depthMax}
-use Rattle.format.specs.Tree.{Tree, node, Trees, ε, _▹_, Labels, bare, label, list, root, labels, find, put}
+use Rattle.format.specs.Tree.{Tree, Trees, ε, _▹_, Labels, label, list, root, labels, find, put}
 use Rattle.format.specs.Size.{size}
-use Rattle.format.specs.Bytes.{fieldBytes, bytes, rootF, treeF, treeFs, labelFs, treeBytes}
+use Rattle.format.specs.Bytes.{fieldBytes, bytes, treeF, treeBytes}
 use Rattle.format.specs.Within.{Ok, OkA, OkL, Allowed}
-use Rattle.format.specs.Area.{Is, Fitted, Wrote, fieldEnd, Finished, Finishable}
+use Rattle.format.specs.Area.{Is, Fitted, Wrote, fieldEnd, Finished}
 use Rattle.format.specs.Labels.{labelAt}
-use Rattle.format.specs.Stand.{rootBytes, treesBytes, labelsBytes, entryBytes, Holds, FoundIs, Finds}
-use Rattle.format.specs.AreaLaws.{is-part, is-copied, is-keep, failed, no-room, told, wrote-keep, wrote-before, wrote-seq, length-field}
+use Rattle.format.specs.Stand.{rootBytes, treesBytes, labelsBytes, entryBytes, Holds, Finds}
+use Rattle.format.specs.AreaLaws.{is-join, is-copied, is-keep, failed, told, wrote-keep, wrote-before, wrote-seq, length-field}
 use Rattle.format.specs.FieldLaws.{bytes-one}
 use Rattle.format.specs.SizeLaws.{length-tree, trees-list}
 use Rattle.format.specs.StandLaws.{tree-parts, labels-parts, labels-none, trees-parts, trees-none}
@@ -33,9 +30,8 @@ use Rattle.writing.specs.declared.unwind.Nth.the-variants.{Written, Past
 use Rattle.stages.specs.Unwind.{holding, unwound}
 use Rattle.writing.specs.Writers.{Along, Ready}
 use Rattle.writing.specs.Place.{entryOf, Behind, Headed}
-use Rattle.writing.specs.Outcomes.{Sound, Sounds, soundBytes, soundsBytes, EntryIs, EntryFound, FindsEntry, Counts, CountsEach, NthIs, PutsNth, PutsNthEach, Has, PutsOutcome, Around, Surrounds, ElementReady, PutsElement}
+use Rattle.writing.specs.Outcomes.{soundBytes, soundsBytes, EntryIs, EntryFound, FindsEntry, Counts, CountsEach, NthIs, PutsNth, PutsNthEach, Has, PutsOutcome, Around, Surrounds, ElementReady, PutsElement}
 use Rattle.writing.specs.WriterLaws.{rest-of, rest-none}
-use Rattle.writing.specs.PlaceLaws.{length-entry}
 use Rattle.writing.specs.UnwoundLaws.{find-first, find-later, put-first, put-later, find-above, found-ok, labels-ok, length-map, unwound-none, unwound-some, unwound-count, getD-map, outcome-under}
 
 -- ---- counting
@@ -80,17 +76,6 @@ pub count-sum : {q : List ℕ} {p e : ℕ} (i : ℕ) {w : List ℕ} {a b n m : �
 count-sum i z h path ts g k = sym z ∙ h path ts g k
 
 -- ---- a label's entry, label by label
--- one part behind another
-is-join : {w : List ℕ} {p m e : ℕ} {xs ys : List ℕ} → Is w p m xs → Is w m e ys → Is w p e (xs ++ ys)
-is-join {w} {p} {m} {e} {xs} {ys} h k =
-    let n : e ≡ m + (e - m) = omega (arith, k .ends) in
-    let l : p ≤ length (take m w) = omega (arith, length-take-le m w (h .inside), h .ends) in
-    record {
-      lies = ap (λ i. drop p (take i w)) n ∙ ap (drop p) (take-add m (e - m) w) ∙ drop-append-le p (take m w) (take (e - m) (drop m w)) l ∙ ap₂ _++_ (h .lies) (is-part k);
-      ends = omega (arith, h .ends, k .ends, length-append xs ys);
-      inside = k .inside;
-    }
-
 is-none : (w : List ℕ) (p e : ℕ) → p ≡ e → p ≤ length w → Is w p e []
 is-none w p e z l = record { lies = ap (λ n. slice n e w) z ∙ slice-empty e w; ends = omega arith; inside = omega arith }
 
