@@ -1,0 +1,6 @@
+-- Definitions.
+pub mod Made
+pub mod Project
+pub mod Lookup
+-- Laws.
+pub mod MadeLaws
