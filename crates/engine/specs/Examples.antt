@@ -16,7 +16,7 @@ use Rattle.engine.specs.Program.{headed, digit, hex, decimal, refusedTex
 -- The plain run: query, input, joined array, the length of the work area, the result area. Under this name all definitions
 -- of this crate and of those below compute.
 unfoldable abbrev pub answer : List ℕ → List ℕ → List ℕ → ℕ → List ℕ → Outcome
-unfolding ran numberOf leave workLeft resultLeft reading final ending outcomeIn plainRun workAfter checkNumber checkedQuery checkedArray headed digit hex decimal refusedText shown answered program
+unfolding ran leave workLeft resultLeft reading final ending outcomeIn plainRun workAfter checkNumber checkedQuery checkedArray headed digit hex decimal refusedText shown answered program
 answer q i j work area = plainRun q i j work area
 
 -- ---- arguments, and what a row says of them

@@ -12,7 +12,9 @@ use Rattle.format.specs.Readers.{Tested, accepted, overlong, malformed}
 use Rattle.format.specs.Decode.{readArray}
 use Rattle.query.specs.Decode.{readQuery}
 use Rattle.stages.specs.Stages.{State, going, large, long, stages}
-use Rattle.engine.specs.Refusal.{Refusal, workShort, queryLong, queryMalformed, inputLong, inputMalformed, joinedLong, joinedMalformed, treeLarge, groupLong, resultLong, numberOf, leave, workLeft, resultLeft}
+use Rattle.engine.specs.declared.answer.Refusal.{Refusal}
+use Rattle.engine.specs.declared.answer.Refusal.the-variants.{WorkShort, QueryLong, QueryMalformed, InputLong, InputMalformed, JoinedLong, JoinedMalformed, TreeLarge, GroupLong, ResultLong}
+use Rattle.engine.specs.Refusal.{numberOf, leave, workLeft, resultLeft}
 
 -- ---- how a run ends: with the bytes of an array, or refused
 pub data Ending : Type 0 where
@@ -27,21 +29,21 @@ reading malformed r s f = refused s
 
 -- after the last stage: a list that passes 16,384 bytes or the room in the result area is refused
 unfoldable pub final : ℕ → State → Ending
-final room large = refused treeLarge
-final room long = refused groupLong
-final room (going ts) = cond (leb (arraySize ts) arrayMax && leb (arraySize ts) room) (gives (arrayBytes ts)) (refused resultLong)
+final room large = refused TreeLarge
+final room long = refused GroupLong
+final room (going ts) = cond (leb (arraySize ts) arrayMax && leb (arraySize ts) room) (gives (arrayBytes ts)) (refused ResultLong)
 
 -- query, input, joined array, the lengths of the work and of the result area
 unfoldable pub ending : List ℕ → List ℕ → List ℕ → ℕ → ℕ → Ending
 ending q i j work room =
     cond (leb workMin work)
     (
-    reading (readQuery q) queryLong queryMalformed λ ss.
-    reading (readArray i) inputLong inputMalformed λ ts.
-    reading (readArray j) joinedLong joinedMalformed λ us.
+    reading (readQuery q) QueryLong QueryMalformed λ ss.
+    reading (readArray i) InputLong InputMalformed λ ts.
+    reading (readArray j) JoinedLong JoinedMalformed λ us.
     final room (stages us ss (going ts))
     )
-    (refused workShort)
+    (refused WorkShort)
 
 -- ---- what a call returns, and the result area after it
 pub record Outcome : Type 0 where
@@ -77,7 +79,7 @@ checkNumber overlong r s = numberOf r
 checkNumber malformed r s = numberOf s
 
 unfoldable pub checkedQuery : List ℕ → ℕ
-checkedQuery q = checkNumber (readQuery q) queryLong queryMalformed
+checkedQuery q = checkNumber (readQuery q) QueryLong QueryMalformed
 
 unfoldable pub checkedArray : List ℕ → ℕ
-checkedArray b = checkNumber (readArray b) inputLong inputMalformed
+checkedArray b = checkNumber (readArray b) InputLong InputMalformed

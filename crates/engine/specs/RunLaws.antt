@@ -23,7 +23,9 @@ use Rattle.query.specs.Check.{queryCheck, queryNumber}
 use Rattle.query.specs.QueryLaws.{query-only, read-query}
 use Rattle.stages.specs.Stages.{State, going, large, long, stages}
 use Rattle.stages.specs.KeepLaws.{stages-allowed}
-use Rattle.engine.specs.Refusal.{Refusal, workShort, queryLong, queryMalformed, inputLong, inputMalformed, joinedLong, joinedMalformed, treeLarge, groupLong, resultLong, numberOf}
+use Rattle.engine.specs.declared.answer.Refusal.{Refusal}
+use Rattle.engine.specs.declared.answer.Refusal.the-variants.{WorkShort, QueryLong, QueryMalformed, InputLong, InputMalformed, JoinedLong, JoinedMalformed, TreeLarge, GroupLong, ResultLong}
+use Rattle.engine.specs.Refusal.{numberOf}
 use Rattle.engine.specs.Run.{Ending, gives, refused, reading, final, ending, outcomeIn, plainRun, Accepts, resultBytes, checkNumber, checkedQuery, checkedArray}
 
 -- what an accepted run has read, and the list that it gives
@@ -68,7 +70,7 @@ unfolding final
 final-out room large b e = let z : _≡_ {A = ℕ} 0 1 = cc in absurd (omega arith)
 final-out room long b e = let z : _≡_ {A = ℕ} 0 1 = cc in absurd (omega arith)
 final-out room (going ts) b e =
-    let c = cond-out (leb (arraySize ts) arrayMax && leb (arraySize ts) room) (gives (arrayBytes ts)) resultLong b e in
+    let c = cond-out (leb (arraySize ts) arrayMax && leb (arraySize ts) room) (gives (arrayBytes ts)) ResultLong b e in
     let p = T-and (leb (arraySize ts) arrayMax) (leb (arraySize ts) room) (c .0) in
     (ts, refl, leb→le (arraySize ts) arrayMax (p .0), leb→le (arraySize ts) room (p .1))
 
@@ -76,26 +78,25 @@ pub ending-out : (q i j : List ℕ) (work room : ℕ) (b : List ℕ) → ending 
     → (ss : List Stage) × (ts : List Tree) × (us : List Tree) × (fs : List Tree) × Read q i j work room ss ts us fs
 unfolding ending
 ending-out q i j work room b e =
-    let (w, e0) = cond-out (leb workMin work) _ workShort b e in
-    let (ss, a, e1) = reading-out (readQuery q) queryLong queryMalformed _ b e0 in
-    let (ts, c, e2) = reading-out (readArray i) inputLong inputMalformed _ b e1 in
-    let (us, d, e3) = reading-out (readArray j) joinedLong joinedMalformed _ b e2 in
+    let (w, e0) = cond-out (leb workMin work) _ WorkShort b e in
+    let (ss, a, e1) = reading-out (readQuery q) QueryLong QueryMalformed _ b e0 in
+    let (ts, c, e2) = reading-out (readArray i) InputLong InputMalformed _ b e1 in
+    let (us, d, e3) = reading-out (readArray j) JoinedLong JoinedMalformed _ b e2 in
     let (fs, f, s, m) = final-out room (stages us ss (going ts)) b e3 in
     (ss, ts, us, fs, record { enough = leb→le workMin work w; query = a; input = c; joined = d; ran = f; small = s; fits = m })
 
 -- ---- outcomes
 refused-number : (r : Refusal) → numberOf r ≡ 0 → ⊥
-unfolding numberOf
-refused-number workShort e = omega arith
-refused-number queryLong e = omega arith
-refused-number queryMalformed e = omega arith
-refused-number inputLong e = omega arith
-refused-number inputMalformed e = omega arith
-refused-number joinedLong e = omega arith
-refused-number joinedMalformed e = omega arith
-refused-number treeLarge e = omega arith
-refused-number groupLong e = omega arith
-refused-number resultLong e = omega arith
+refused-number WorkShort e = omega arith
+refused-number QueryLong e = omega arith
+refused-number QueryMalformed e = omega arith
+refused-number InputLong e = omega arith
+refused-number InputMalformed e = omega arith
+refused-number JoinedLong e = omega arith
+refused-number JoinedMalformed e = omega arith
+refused-number TreeLarge e = omega arith
+refused-number GroupLong e = omega arith
+refused-number ResultLong e = omega arith
 
 -- number 0 is acceptance
 pub accepts-gives : (area : List ℕ) (x : Ending) → Accepts (outcomeIn area x) → (b : List ℕ) × (x ≡ gives b)
@@ -130,19 +131,19 @@ accepted-within q i j work room ss ts us fs bq bi bj r =
 
 -- ---- the answers of the public checks have the table's numbers
 pub checked-array : (b : List ℕ) → arrayNumber (arrayCheck (readArray b)) ≡ checkedArray b
-unfolding checkedArray checkNumber numberOf
+unfolding checkedArray checkNumber
 checked-array b = go (readArray b)
   where
-    go : (x : Tested (List Tree)) → arrayNumber (arrayCheck x) ≡ checkNumber x inputLong inputMalformed
+    go : (x : Tested (List Tree)) → arrayNumber (arrayCheck x) ≡ checkNumber x InputLong InputMalformed
     go (accepted ts) = refl
     go overlong = refl
     go malformed = refl
 
 pub checked-query : (b : List ℕ) → queryNumber (queryCheck (readQuery b)) ≡ checkedQuery b
-unfolding checkedQuery checkNumber numberOf
+unfolding checkedQuery checkNumber
 checked-query b = go (readQuery b)
   where
-    go : (x : Tested (List Stage)) → queryNumber (queryCheck x) ≡ checkNumber x queryLong queryMalformed
+    go : (x : Tested (List Stage)) → queryNumber (queryCheck x) ≡ checkNumber x QueryLong QueryMalformed
     go (accepted ss) = refl
     go overlong = refl
     go malformed = refl

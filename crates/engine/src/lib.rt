@@ -1,1 +1,4 @@
-//! Only definitions and laws so far: see `specs/`.
+//! The engine's public calls. `specs/` has the plain run, which the streamed run answers as, and the theorems.
+pub mod admit;
+pub mod answer;
+pub mod finish;

@@ -1,0 +1,98 @@
+-- Made from Proof.ans by answers.py, which overwrites this file: edit Proof.ans.
+use mathlib.Core.Path.{refl}
+use Rattle.engine.specs.FinishLaws.{
+  held-accept,
+  held-finish,
+  failed-large,
+  failed-long,
+  failed-full,
+}
+use borrow.Author.Needs.{needs}
+use Rattle.engine.proofs.finish.finish.Statement.{statement}
+use Rattle.engine.proofs.finish.finish.Tie as tie
+use Rattle.engine.proofs.finish.finish.Reads as reads
+use Rattle.engine.proofs.finish.finish.Lts as lts
+use Rattle.engine.proofs.finish.accept.Reads as accept-reads
+use Rattle.engine.proofs.finish.fail.Reads as fail-reads
+
+enum-known-r : tie.Need-enum-known-r
+enum-known-r c = search needs
+
+accept-requires : tie.Need-accept-requires
+accept-requires c κs =
+    held-accept (c .before .before .before .before .before .before .pre)
+    (c .before .before .r .given .1)
+
+enum-told : tie.Need-enum-told
+enum-told c = search needs
+
+fail-requires : tie.Need-fail-requires
+fail-requires c κs = search needs
+
+enum-told-2 : tie.Need-enum-told-2
+enum-told-2 c = search needs
+
+fail-requires-2 : tie.Need-fail-requires-2
+fail-requires-2 c κs = search needs
+
+enum-told-3 : tie.Need-enum-told-3
+enum-told-3 c = search needs
+
+fail-requires-3 : tie.Need-fail-requires-3
+fail-requires-3 c κs = search needs
+
+same-length : tie.Need-same-length
+same-length c = search needs
+
+returns : tie.Need-returns
+returns c =
+    held-finish (c .before .before .before .before .before .before .before .before .before .args .result .now)
+    (c .before .before .before .before .before .r .given .1) (c .before .before .accept .ensures)
+
+same-length-2 : tie.Need-same-length-2
+same-length-2 c = search needs
+
+returns-2 : tie.Need-returns-2
+returns-2 c =
+    λ st h. failed-large (c .before .before .before .before .before .before .before .before .args .result .now)
+    (c .before .before .fail .ensures) refl
+    (h .large-is (c .before .before .before .before .enum-told .given .1))
+
+same-length-3 : tie.Need-same-length-3
+same-length-3 c = search needs
+
+returns-3 : tie.Need-returns-3
+returns-3 c =
+    λ st h. failed-long (c .before .before .before .before .before .before .before .before .args .result .now)
+    (c .before .before .fail2 .ensures) refl
+    (h .long-is (c .before .before .before .before .enum-told2 .given .1))
+
+same-length-4 : tie.Need-same-length-4
+same-length-4 c = search needs
+
+returns-4 : tie.Need-returns-4
+returns-4 c =
+    λ st h. failed-full (c .before .before .before .before .before .before .before .before .args .result .now)
+    (c .before .before .fail3 .ensures) refl
+    (h .full (c .before .before .before .before .enum-told3 .given .1))
+
+pub finish-spec : {M : Type 1} → statement M
+finish-spec =
+    tie.close
+    (tie.spec
+    enum-known-r
+    accept-requires
+    enum-told
+    fail-requires
+    enum-told-2
+    fail-requires-2
+    enum-told-3
+    fail-requires-3
+    same-length
+    returns
+    same-length-2
+    returns-2
+    same-length-3
+    returns-3
+    same-length-4
+    returns-4)

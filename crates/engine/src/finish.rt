@@ -1,0 +1,62 @@
+//! The end of a run: the array that the stages gave is written to the result area, or the area is cleared.
+ghost use mathlib.Core.Path.{_≡_};
+ghost use mathlib.Core.List.{_++_};
+ghost use lib.ListN.{length, replicate};
+ghost use Rattle.format.specs.Area.{headBytes};
+ghost use Rattle.engine.specs.Finish.{ArrayReady, AcceptReady, Accepts, FinishReady, Finishes};
+use crate::answer::Answer;
+use crate::answer::Refusal;
+use format::area::clear;
+use format::area::emit;
+use format::area::field_end;
+use format::area::put_head;
+use stretches::ended::Ended;
+
+/// A refusal in or after the stages: the result area is zero.
+fn fail(r: Refusal, result: &mut [u8]) -> Answer
+    ensures { λ a. ⌜ (a ≡ Answer.Refused r) × (now (result .exit) ≡ replicate (length (now (result .entry))) 0) ⌝ }
+{
+    clear(result);
+    Answer::Refused(r)
+}
+
+/// Writes the array whose trees are src over all of out: its head, and each tree directly behind the one before it.
+fn write_array(out: &mut [u8], src: &[u8])
+    requires { ⌜ ArrayReady (now out) (now src) ⌝ }
+    ensures { λ _. ⌜ now (out .exit) ≡ headBytes 1 (length (now (src .entry))) ++ now (src .entry) ⌝ }
+{
+    let end = out.len();
+    put_head(out, 0, 1, end);
+    let mut at = 0;
+    while at != src.len() {
+        let m = field_end(src, at);
+        emit(out, at + 3, &src[at..m]);
+        at = m;
+    }
+}
+
+/// The array of whose trees the collector holds n bytes: it is written, if the result area has room for it.
+fn accept(w: &[u8], n: usize, result: &mut [u8]) -> Answer
+    requires { ⌜ AcceptReady (now w) n ⌝ }
+    ensures { λ a. ⌜ Accepts (now (w .entry)) n (now (result .entry)) (now (result .exit)) a ⌝ }
+{
+    if result.len() < n + 3 {
+        return fail(Refusal::ResultLong, result);
+    }
+    let from = w.len() - 21844;
+    write_array(&mut result[..n + 3], &w[from..from + n]);
+    Answer::Accepted(n + 3)
+}
+
+/// The answer of a run whose stages ended so.
+pub fn finish(w: &[u8], r: Ended, result: &mut [u8]) -> Answer
+    requires { ⌜ FinishReady (now w) r ⌝ }
+    ensures { λ a. ⌜ Finishes (now (w .entry)) r (now (result .entry)) (now (result .exit)) a ⌝ }
+{
+    match r {
+        Ended::Held(n) => accept(w, n, result),
+        Ended::Large => fail(Refusal::TreeLarge, result),
+        Ended::Long => fail(Refusal::GroupLong, result),
+        Ended::Full => fail(Refusal::ResultLong, result),
+    }
+}

@@ -1,0 +1,59 @@
+-- What the answer of all stretches says: the state that the plain run's stages come to, and where its trees stand.
+use mathlib.Core.Path.{_≡_}
+use mathlib.Core.List.{List}
+use Prim.Native.Nat.{ℕ, _+_, _-_, _≤_, _<_}
+use lib.ListN.{length}
+use Rattle.format.specs.Limits.{arrayMax, workMin}
+use Rattle.format.specs.Tree.{Tree}
+use Rattle.format.specs.Size.{arraySize}
+use Rattle.format.specs.Bytes.{arrayBytes}
+use Rattle.format.specs.Within.{Within}
+use Rattle.format.specs.Area.{Is}
+use Rattle.query.specs.Query.{Stage}
+use Rattle.query.specs.Bytes.{queryBytes}
+use Rattle.query.specs.Rules.{OkQ}
+use Rattle.query.specs.Places.{arrayTrees}
+use Rattle.stages.specs.Stages.{State, going, large, long, stages}
+use Rattle.stretches.specs.declared.ended.Ended.{Ended}
+
+-- where the collector begins, in an area of n bytes
+abbrev pub collectorAt : ℕ → ℕ
+collectorAt n = n - 21844
+
+-- the trees of the state stand in the collector, n bytes of them, and are no more than an array may have
+pub record HeldIs (w : List ℕ) (n : ℕ) (st : State) : Type 0 where
+  pub trees : List Tree
+  pub same : st ≡ going trees
+  pub trees-are : Is w (collectorAt (length w)) (collectorAt (length w) + n) (arrayTrees trees)
+  pub short : n + 3 ≤ arrayMax
+
+-- the trees of the state are more than an array may have
+pub record FullIs (st : State) : Type 0 where
+  pub trees : List Tree
+  pub same : st ≡ going trees
+  pub over : arrayMax < arraySize trees
+
+-- r says the state st; w is the area
+pub record Ends (w : List ℕ) (r : Ended) (st : State) : Type 0 where
+  pub held : (n : ℕ) → r ≡ Ended.Held n → HeldIs w n st
+  pub full : r ≡ Ended.Full → FullIs st
+  pub large-is : r ≡ Ended.Large → st ≡ large
+  pub long-is : r ≡ Ended.Long → st ≡ long
+
+-- ---- all stretches
+-- an admitted query, and an input and a joined array within the limits
+pub record Admitted (q i j : List ℕ) : Type 0 where
+  pub query : List Stage
+  pub query-is : q ≡ queryBytes query
+  pub query-ok : OkQ query
+  pub input : List Tree
+  pub input-is : i ≡ arrayBytes input
+  pub input-ok : Within input
+  pub joined : List Tree
+  pub joined-is : j ≡ arrayBytes joined
+  pub joined-ok : Within joined
+
+-- whatever query and arrays these bytes are, r says what the plain run's stages come to
+abbrev pub Runs : (q i j w : List ℕ) → Ended → Type 0
+Runs q i j w r = (ss : List Stage) (ts us : List Tree) → q ≡ queryBytes ss → OkQ ss → i ≡ arrayBytes ts → Within ts → j ≡ arrayBytes us → Within us
+    → Ends w r (stages us ss (going ts))
