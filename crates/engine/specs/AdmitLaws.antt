@@ -79,10 +79,13 @@ module _ (q i j : List ℕ) (work : ℕ) where
     where
       a : Admission
       a = decided (queryCheck (readQuery q)) QueryLong QueryMalformed
+
       b : Admission
       b = decided (arrayCheck (readArray i)) InputLong InputMalformed
+
       d : Admission
       d = decided (arrayCheck (readArray j)) JoinedLong JoinedMalformed
+
       go : (c : Bool) → leb workMin work ≡ c → cond c (next a (next b d)) (Refused WorkShort) ≡ Admitted → Reads q i j work
       go false l z = let y : _≡_ {A = ℕ} 0 1 = cc in absurd (omega arith)
       go true l z =
@@ -142,17 +145,22 @@ refused-early q i j work r e = go (leb workMin work) refl e
   where
     b : Admission
     b = decided (arrayCheck (readArray i)) InputLong InputMalformed
+
     d : Admission
     d = decided (arrayCheck (readArray j)) JoinedLong JoinedMalformed
+
     stagesEnd : ℕ → List Stage → List Tree → List Tree → Ending
     stagesEnd room ss ts us = final room (stages us ss (going ts))
+
     all : ℕ → Ending
     all room = reading (readQuery q) QueryLong QueryMalformed λ ss. reading (readArray i) InputLong InputMalformed λ ts. reading (readArray j) JoinedLong JoinedMalformed λ us. stagesEnd room ss ts us
+
     pieces : next (decided (queryCheck (readQuery q)) QueryLong QueryMalformed) (next b d) ≡ Refused r → (room : ℕ) → Piece (all room) r
     pieces z room =
         piece queryCheck (λ a. refl) refl refl (readQuery q) QueryLong QueryMalformed r _ (next b d) (refl, refl) (refl, refl)
         (λ ss. piece arrayCheck (λ a. refl) refl refl (readArray i) InputLong InputMalformed r _ d (refl, refl) (refl, refl)
         (λ ts. last-piece (readArray j) JoinedLong JoinedMalformed r (stagesEnd room ss ts) (refl, refl) (refl, refl))) z
+
     go : (c : Bool) → leb workMin work ≡ c → cond c (next (decided (queryCheck (readQuery q)) QueryLong QueryMalformed) (next b d)) (Refused WorkShort) ≡ Refused r → Early q i j work r
     go false l z =
         let y : WorkShort ≡ r = cc in

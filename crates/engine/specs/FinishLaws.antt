@@ -53,11 +53,11 @@ module _ {out : List ℕ} (src : List ℕ) (l : length out ≡ length src + 3) w
       let n : length (take (m - at) (drop at src)) ≡ m - at = length-take-le (m - at) (drop at src) (omega (arith, length-drop at src)) in
       told r
       (λ e z.
-          let g = h .fits e z in
-          let q : e ≡ m + 3 = omega (arith, g .ends) in
-          ap (λ k. take k x) (sym q) ∙ g .below ∙ ap (λ k. k ++ take (m - at) (drop at src)) f
-              ∙ append-assoc (headBytes 1 (length src)) (take at src) (take (m - at) (drop at src))
-              ∙ ap (λ k. headBytes 1 (length src) ++ k) (take-more at m src a))
+      let g = h .fits e z in
+      let q : e ≡ m + 3 = omega (arith, g .ends) in
+      ap (λ k. take k x) (sym q) ∙ g .below ∙ ap (λ k. k ++ take (m - at) (drop at src)) f
+      ∙ append-assoc (headBytes 1 (length src)) (take at src) (take (m - at) (drop at src))
+      ∙ ap (λ k. headBytes 1 (length src) ++ k) (take-more at m src a))
       (λ z. absurd (omega (arith, h .large z .over)))
 
   pub array-done : {at : ℕ} → at ≡ length src → Filled out src at → out ≡ headBytes 1 (length src) ++ src

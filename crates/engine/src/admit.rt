@@ -32,13 +32,25 @@ pub fn admit(query: &[u8], input: &[u8], joined: &[u8], work: usize) -> Admissio
     if work < Limits::WORK {
         return Admission::Refused(Refusal::WorkShort);
     }
-    let a = decide(check_query(query), Refusal::QueryLong, Refusal::QueryMalformed);
+    let a = decide(
+        check_query(query),
+        Refusal::QueryLong,
+        Refusal::QueryMalformed,
+    );
     let Admission::Admitted = a else {
         return a;
     };
-    let b = decide(check_array(input), Refusal::InputLong, Refusal::InputMalformed);
+    let b = decide(
+        check_array(input),
+        Refusal::InputLong,
+        Refusal::InputMalformed,
+    );
     let Admission::Admitted = b else {
         return b;
     };
-    decide(check_array(joined), Refusal::JoinedLong, Refusal::JoinedMalformed)
+    decide(
+        check_array(joined),
+        Refusal::JoinedLong,
+        Refusal::JoinedMalformed,
+    )
 }

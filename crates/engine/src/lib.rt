@@ -2,3 +2,5 @@
 pub mod admit;
 pub mod answer;
 pub mod finish;
+pub mod interface;
+pub mod run;

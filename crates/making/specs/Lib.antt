@@ -4,3 +4,5 @@ pub mod Project
 pub mod Lookup
 -- Laws.
 pub mod MadeLaws
+pub mod ProjectLaws
+pub mod LookupLaws

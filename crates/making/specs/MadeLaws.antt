@@ -1,8 +1,8 @@
 -- Laws of building: a part that was written and added, and a value that was placed.
 use mathlib.Core.Path.{_≡_, refl, sym, ap, subst, _∙_}
-use mathlib.Core.List.{List}
+use mathlib.Core.List.{List, [], _∷_}
 use mathlib.Core.Bool.{true, false, _&&_}
-use mathlib.Core.Option.{none, some}
+use mathlib.Core.Option.{Option, none, some}
 use Prim.Native.Nat.{ℕ, _+_, _*_, _≤_, _<_}
 use native.Mathlib.Omega.{arith}
 use lib.ListN.{length, take, drop}
@@ -17,20 +17,27 @@ use Rattle.format.specs.Bytes.{bytes, treeFs, treeBytes}
 use Rattle.format.specs.Within.{Ok}
 use Rattle.format.specs.Area.{Is, Wrote, outcome}
 use Rattle.format.specs.AreaLaws.{take-less, drop-more, is-keep, wrote-keep, wrote-outcome, written}
+use Rattle.format.specs.OptionLaws.{true-T, T-and}
 use Rattle.format.specs.Stand.{treesBytes}
 use Rattle.format.specs.Tree.{trees}
 use Rattle.query.specs.Query.{Path}
+use Rattle.query.specs.Rules.{OkP⁺}
+use Rattle.query.specs.Places.{pathBytes, HoldsOk}
 use Rattle.query.specs.Steps.{stepCount}
 use Rattle.query.specs.StepLaws.{steps-are}
 use Rattle.stages.specs.Paths.{Found}
 use Rattle.stages.specs.Project.{placed, placeAt}
-use Rattle.stages.specs.Merge.{merge}
+use Rattle.stages.specs.Merge.{merge, build}
+use Rattle.stages.specs.KeepLaws.{merge-ok, fits-allowed}
 use Rattle.merging.specs.MergeBytes.{Standing, Addable, PartAdded, Added}
+use Rattle.merging.specs.BuildLaws.{added-next, added-large, standing-keep, standing-written}
 use Rattle.values.specs.declared.value.Value.{Value}
 use Rattle.values.specs.Value.{WroteFound}
+use Rattle.writing.specs.Writers.{Along}
+use Rattle.writing.specs.WriterLaws.{path-short}
 use Rattle.writing.specs.Place.{Headed, Placed, Behind, placeBytes}
 use Rattle.writing.specs.PlaceLaws.{length-place, placed-tree, headed-large, place-bytes}
-use Rattle.making.specs.Made.{Adding, AddedAt, Adds, ValueReady, PlacesValue}
+use Rattle.making.specs.Made.{Made, Adding, AddedAt, Adds, ValueReady, PlacesValue}
 
 -- ---- the bare void tree, with which a build begins
 void-size : size v ≡ 6
@@ -115,3 +122,73 @@ module _ {w q : List ℕ} {p e d stop : ℕ} {r : Value} (h : ValueReady w q p e
       let k = headed-large (placeBytes path) (13 * length path) {w = w} {d = d} (length-place path) refl in
       subst (λ y2. Wrote u w d stop (treeBytes (placed path y2)) TooLarge) (sym (a .same))
       (subst (λ l2. Wrote u w d stop l2 TooLarge) (sym (place-bytes path (a .array) n)) (k .wrote u stop (treesBytes (trees (a .array))) b (a .wrote)))
+
+-- ---- a path that is placed along
+pub target-along : {q : List ℕ} {f t : ℕ} → HoldsOk OkP⁺ pathBytes q f t → Along q f t
+target-along h = record { path = h .value; path-is = h .value-is; allowed = h .allowed .0 }
+
+-- the heads take at most 104 bytes
+pub target-heads : {q : List ℕ} {f t : ℕ} → HoldsOk OkP⁺ pathBytes q f t → (f ≤ t) × (13 * stepCount f t ≤ 104)
+target-heads h = (omega (arith, h .value-is .ends), omega (arith, steps-are (h .value-is), path-short (h .value) (h .allowed .0)))
+
+-- ---- what was made, part by part
+
+-- what was changed before, between s and three rooms above it, does not matter
+pub made-after : {w w2 u : List ℕ} {s : ℕ} {x : Option Tree} {r : Out} → take s w2 ≡ take s w → drop (s + 3 * treeMax) w2 ≡ drop (s + 3 * treeMax) w
+    → Made w2 u s x r → Made w u s x r
+made-after a b h = record { tree-is = h .tree-is; large = h .large; below = h .below ∙ a; beyond = h .beyond ∙ b }
+
+-- no part is left
+pub made-done : {w : List ℕ} {s se : ℕ} (x : Tree) → Is w s se (treeBytes x) → Made w w s (build x []) (At se)
+unfolding build
+made-done {w} {s} {se} x h = record {
+  tree-is = λ e q. let z : se ≡ e = cc in record { tree = x; same = refl; stands = subst (λ n. Is w s n (treeBytes x)) z h };
+  large = λ q. let y : _≡_ {A = ℕ} 0 1 = cc in absurd (omega arith);
+  below = refl;
+  beyond = refl;
+}
+
+module _ {w w2 : List ℕ} {s : ℕ} {x y : Tree} {o : Out} (h : AddedAt w w2 s x y o) (ts : List Tree) where
+  -- a part was added, and then the others
+  pub made-next : {e : ℕ} {u : List ℕ} {r : Out} → o ≡ At e → Made w2 u s (build (merge x y) ts) r → Made w u s (build x (y ∷ ts)) r
+  made-next {e} {u} {r} q k =
+      subst (λ z. Made w u s z r) (sym (added-next h ts q)) (made-after (h .below) (h .beyond (s + 3 * treeMax) (omega arith)) k)
+
+  -- a part was too large
+  pub made-stop : o ≡ TooLarge → Made w w2 s (build x (y ∷ ts)) TooLarge
+  made-stop q = record {
+    tree-is = λ e z. let y : _≡_ {A = ℕ} 0 1 = cc in absurd (omega arith);
+    large = λ z. added-large h ts q;
+    below = h .below;
+    beyond = h .beyond (s + 3 * treeMax) (omega arith);
+  }
+
+-- of one part
+pub made-one : {w u : List ℕ} {s : ℕ} {x y : Tree} {o : Out} → AddedAt w u s x y o → Made w u s (build x (y ∷ [])) o
+made-one {w} {u} {s} {x} {y} {o} h = go o refl
+  where
+    go : (r : Out) → o ≡ r → Made w u s (build x (y ∷ [])) o
+    go (At e) q = subst (λ r. Made w u s (build x (y ∷ [])) r) (sym q) (made-next h [] q (made-done (merge x y) (h .merge-is e q)))
+    go TooLarge q = subst (λ r. Made w u s (build x (y ∷ [])) r) (sym q) (made-stop h [] q)
+
+-- the tree so far, with the part that was added
+module _ {w u : List ℕ} {s e : ℕ} {x y : Tree} {o : Out} (h : AddedAt w u s x y o) (ox : Ok x) (oy : Ok y) (q : o ≡ At e) where
+  pub added-whole : Standing u s e
+  added-whole = record { tree = merge x y; ok = merge-ok x y ox oy; tree-is = h .merge-is e q }
+
+  pub added-within : e ≤ s + treeMax
+  added-within =
+      let f = fits-allowed (merge x y) (merge-ok x y ox oy) (T-and (fits y) (fits (merge x y)) (true-T (h .fit e q)) .1) in
+      omega (arith, h .ends e q, f .small)
+
+-- what is asked before a part that was written is added
+pub part-adding : {w u : List ℕ} {s se : ℕ} {r : Out} (y : Tree) → Ok y → Standing w s se → se ≤ s + treeMax → s + 3 * treeMax ≤ length w → length w ≤ workMin
+    → length u ≡ length w → Wrote w u (s + treeMax) (s + treeMax + treeMax) (treeBytes y) r → Adding u s se r
+part-adding {w} {u} {s} {se} {r} y oy h a b c l k = record {
+  whole = standing-keep h (wrote-keep k (omega arith)) a;
+  within = a;
+  part = λ e q. standing-written y oy (omega arith) k q;
+  part-room = λ e q. k .fits e q .room;
+  room = omega arith;
+  small = omega arith;
+}

@@ -23,7 +23,7 @@ use Rattle.reading.specs.WalkLaws.{walk-at}
 use Rattle.reading.specs.Keys.{FewPairs, SourcedIs, SameSourceIs, SubsetIs, AlikeIs, JoinsIs}
 
 -- ---- the source of a pair
-pair-source : {q : List ℕ} {p e : ℕ} {x : Pair} {r : PairAt} → PairIs q p e x r → Is q (r .source) (r .«source_end») (x .source)
+pub pair-source : {q : List ℕ} {p e : ℕ} {x : Pair} {r : PairAt} → PairIs q p e x r → Is q (r .source) (r .«source_end») (x .source)
 pair-source {q} {r = r} k = subst (Is q (r .source) (r .«source_end»)) (sym (ap (λ y. y .source) (k .same))) (k .first-is)
 
 module _ {q : List ℕ} {p e : ℕ} {r : PairAt} (reads : ReadsPair q p e r) {s : List ℕ} {a b : ℕ} where

@@ -43,7 +43,7 @@ module _ {A : Type 0} where
       go true e = e
       go false e = refl
 
-gather-append : {A B : Type 0} (f : A → List B) (a b : List A) → gather f (a ++ b) ≡ gather f a ++ gather f b
+pub gather-append : {A B : Type 0} (f : A → List B) (a b : List A) → gather f (a ++ b) ≡ gather f a ++ gather f b
 unfolding gather
 gather-append f [] b = refl
 gather-append f (x ∷ a) b = rw (gather-append f a b) (sym (append-assoc (f x) (gather f a) (gather f b)))
@@ -142,6 +142,13 @@ pub stages-join : (us : List Tree) (ss : List Stage) (a b : List Tree) → Group
     → stages us ss (going (a ++ b)) ≡ beside (stages us ss (going a)) (stages us ss (going b))
 unfolding beside
 stages-join us ss a b g = stages-beside us ss (going a) (going b) g tt tt
+
+-- and over what f gives of each of two lists
+pub each-join : {A : Type 0} (us : List Tree) (ss : List Stage) (f : A → Option Tree) (a b : List A) → GroupFree ss
+    → stages us ss (after (each f (a ++ b))) ≡ beside (stages us ss (after (each f a))) (stages us ss (after (each f b)))
+each-join us ss f a b g =
+    ap (λ x. stages us ss (after x)) (each-append f a b) ∙ ap (stages us ss) (after-append (each f a) (each f b))
+    ∙ stages-beside us ss (after (each f a)) (after (each f b)) g (after-not-long (each f a)) (after-not-long (each f b))
 
 empty-step : (us : List Tree) (s : Stage) → isGroup s ≡ false → step us s (going []) ≡ going []
 unfolding step isGroup outcome filter gather each leaving all after

@@ -33,7 +33,7 @@ use Rattle.stages.specs.Lookup.{matches, partners, looked}
 use Rattle.stages.specs.Stages.{outcome, leaving, isGroup, State, going, large, long, after, step, stages}
 
 -- ---- well formed trees in a list, in a tree, and where something may be missing
-abbrev OkTs : List Tree → Type 0
+abbrev pub OkTs : List Tree → Type 0
 OkTs ts = All Ok ts
 
 ok-list : (a : Trees) → OkA a → OkTs (list a)
@@ -44,7 +44,7 @@ ok-trees : (ts : List Tree) → OkTs ts → OkA (trees ts)
 ok-trees [] o = tt
 ok-trees (t ∷ ts) o = (o .0, ok-trees ts (o .1))
 
-abbrev OkF : Found → Type 0
+abbrev pub OkF : Found → Type 0
 OkF none = Unit {0}
 OkF (some a) = OkTs a
 
@@ -139,18 +139,18 @@ unfolding joins
 joins-ok [] o = tt
 joins-ok (x ∷ xs) o = join-ok x (joins xs) (o .0) (joins-ok xs (o .1))
 
-over-ok : (f : Tree → Found) → ((t : Tree) → Ok t → OkF (f t)) → (ts : List Tree) → OkTs ts → OkF (over f ts)
+pub over-ok : (f : Tree → Found) → ((t : Tree) → Ok t → OkF (f t)) → (ts : List Tree) → OkTs ts → OkF (over f ts)
 unfolding over
 over-ok f h [] o = tt
 over-ok f h (t ∷ ts) o = joins-ok (map f (t ∷ ts)) (All-map Ok OkF f h (t ∷ ts) o)
 
-apply-ok : (p : Path) (t : Tree) → Ok t → OkF (apply p t)
+pub apply-ok : (p : Path) (t : Tree) → Ok t → OkF (apply p t)
 unfolding apply
 apply-ok [] t o = (o, tt)
 apply-ok (k ∷ p) t o = bind-ok _ (find k (labels t)) (under-ok k t o) (λ a q. over-ok (apply p) (apply-ok p) a q)
 
 -- ---- writing along a path
-abbrev Labelled : Path → Type 0
+abbrev pub Labelled : Path → Type 0
 Labelled p = All (λ k. T (isLabel k)) p
 
 all-labels : (p : Path) → T (all isLabel p) → Labelled p
@@ -158,7 +158,7 @@ unfolding all
 all-labels [] h = tt
 all-labels (k ∷ p) h = let a = T-and (isLabel k) (all isLabel p) h in (a .0, all-labels p (a .1))
 
-labelled : (p : Path) → OkP p → Labelled p
+pub labelled : (p : Path) → OkP p → Labelled p
 unfolding isPath
 labelled p h = all-labels p (T-and (leb (length p) pathMax) (all isLabel p) h .1)
 
@@ -187,7 +187,7 @@ placeAt-ok [] l a o = (tt, tt)
 placeAt-ok (k ∷ []) l a o = one-label-ok k (l .0) a o
 placeAt-ok (k ∷ j ∷ p) l a o = one-label-ok k (l .0) (placeAt (j ∷ p) a ∷ []) (placeAt-ok (j ∷ p) (l .1) a o, tt)
 
-placed-ok : (p : Path) → Labelled p → (x : Found) → OkF x → Ok (placed p x)
+pub placed-ok : (p : Path) → Labelled p → (x : Found) → OkF x → Ok (placed p x)
 unfolding placed
 placed-ok p l none o = (tt, tt)
 placed-ok p l (some a) o = placeAt-ok p l a o
@@ -221,7 +221,7 @@ map-found-ok : (f : List Tree → List Tree) → ((a : List Tree) → OkTs a →
 map-found-ok f h none o = tt
 map-found-ok f h (some a) o = h a o
 
-allowed-ok : (a : List Tree) → AllowedA a → OkTs a
+pub allowed-ok : (a : List Tree) → AllowedA a → OkTs a
 allowed-ok a o = All-imply (Allowed depthMax) Ok (λ t p. p .ok) a o
 
 mutual
@@ -239,7 +239,7 @@ mutual
   values-ok ended t g o = tt
   values-ok (more d ds) t g o = (value-ok d t (g .0) o, values-ok ds t (g .1) o)
 
-item-ok : (t : Tree) → Ok t → (x : Item) → OkI x → Ok (item t x)
+pub item-ok : (t : Tree) → Ok t → (x : Item) → OkI x → Ok (item t x)
 unfolding item
 item-ok t o (keep p) g = kept-ok p (labelled p g) t o
 item-ok t o (place d p) g = placed-ok p (labelled p (g .1 .0)) (value d t) (value-ok d t (g .0 .0) o)
@@ -291,11 +291,14 @@ projected-ok : (is : List Item) → All OkI is → (t : Tree) → Ok t → OkO (
 unfolding projected
 projected-ok is g t o = build-ok v (map (item t) is) (tt, tt) (All-map OkI Ok (item t) (item-ok t o) is g)
 
+-- the part that a lookup adds
+pub partners-ok : (q r p : Path) (joined : List Tree) → OkP p → All Ok joined → (t : Tree) → Ok (placeAt p (partners q r joined t))
+unfolding partners
+partners-ok q r p joined g j t = placeAt-ok p (labelled p g) (partners q r joined t) (All-filter Ok (matches q r t) joined j)
+
 looked-ok : (q r p : Path) (joined : List Tree) → OkP p → OkTs joined → (t : Tree) → Ok t → OkO (looked q r p joined t)
-unfolding looked partners
-looked-ok q r p joined g j t o =
-    build-ok t (placeAt p (partners q r joined t) ∷ []) o
-    (placeAt-ok p (labelled p g) (partners q r joined t) (All-filter Ok (matches q r t) joined j), tt)
+unfolding looked
+looked-ok q r p joined g j t o = build-ok t (placeAt p (partners q r joined t) ∷ []) o (partners-ok q r p joined g j t, tt)
 
 outcome-ok : (joined : List Tree) (s : Stage) (ts : List Tree) → OkTs joined → OkS s → OkTs ts → OkF (outcome joined s ts)
 unfolding outcome

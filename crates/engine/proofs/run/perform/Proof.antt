@@ -1,0 +1,38 @@
+-- Made from Proof.ans by answers.py, which overwrites this file: edit Proof.ans.
+use native.Mathlib.Omega.{arith}
+use Rattle.engine.specs.PerformLaws.{runs-finish, runs-perform}
+use borrow.Author.Needs.{needs}
+use Rattle.engine.proofs.run.perform.Statement.{statement}
+use Rattle.engine.proofs.run.perform.Tie as tie
+use Rattle.engine.proofs.run.perform.Reads as reads
+use Rattle.engine.proofs.run.perform.Lts as lts
+use Rattle.engine.proofs.finish.finish.Reads as finish-reads
+use Rattle.stretches.proofs.all.all.Reads as all-reads
+
+all-requires : tie.Need-all-requires
+all-requires c κs = search needs
+
+finish-requires : tie.Need-finish-requires
+finish-requires c κs =
+    runs-finish (c .before .before .before .before .all .ensures)
+    (c .before .before .before .before .before .before .before .before .before .before .before .pre .0)
+    (omega (
+      arith,
+      c .before .before .before .before .before .before .before .before .before .before .before .pre .1,
+      c .before .before .before .before .all .kept .1 .1 .1 .0,
+    ))
+
+same-length : tie.Need-same-length
+same-length c = search needs
+
+same-length-2 : tie.Need-same-length-2
+same-length-2 c = search needs
+
+returns : tie.Need-returns
+returns c =
+    runs-perform (c .before .before .before .before .before .before .before .all .ensures)
+    (c .before .before .before .before .before .before .before .before .before .before .before .before .before .before .args .result .now)
+    (c .before .before .finish .ensures)
+
+pub perform-spec : {M : Type 1} → statement M
+perform-spec = tie.close (tie.spec all-requires finish-requires same-length same-length-2 returns)

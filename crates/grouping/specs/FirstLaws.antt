@@ -1,0 +1,124 @@
+-- Laws of the search for trees that begin classes: trees that stand one behind another, and what is said of them.
+use mathlib.Core.Path.{_≡_, refl, sym, ap, subst, _∙_}
+use mathlib.Core.List.{List, [], _∷_, _++_}
+use mathlib.Core.Bool.{Bool, true, false, not, _&&_}
+use Prim.Native.Nat.{ℕ, _+_, _≤_}
+use native.Mathlib.Omega.{arith}
+use lib.ListN.{length}
+use lib.Dec.{eqb}
+use borrow.Author.Tests.{eq-eqb, ne-eqb}
+use Rattle.format.specs.Limits.{depthMax}
+use Rattle.format.specs.Lists.{all}
+use Rattle.format.specs.ListLaws.{All-append}
+use Rattle.format.specs.Tree.{Tree, trees}
+use Rattle.format.specs.Bytes.{bytes, treeF, treeBytes}
+use Rattle.format.specs.Within.{Allowed, AllowedA}
+use Rattle.format.specs.Area.{Is, fieldEnd}
+use Rattle.format.specs.AreaLaws.{is-join}
+use Rattle.format.specs.Stand.{treesBytes}
+use Rattle.format.specs.StandLaws.{trees-parts, trees-none, is-alone}
+use Rattle.query.specs.Places.{arrayTrees, HoldsOk}
+use Rattle.reading.specs.Keys.{SubsetIs, AlikeIs}
+use Rattle.reading.specs.ComparedLaws.{trees-append}
+use Rattle.grouping.specs.Classes.{unlike, begins, UnlikeIs, BeginsIs}
+
+-- ---- trees, one behind another: the first, and the rest
+pub record ArrayParts (w : List ℕ) (p m e : ℕ) (ts : List Tree) : Type 0 where
+  pub first : Tree
+  pub rest : List Tree
+  pub same : ts ≡ first ∷ rest
+  pub first-is : Is w p m (treeBytes first)
+  pub rest-is : Is w m e (arrayTrees rest)
+  pub after : p + 6 ≤ m
+  pub within : m ≤ e
+
+module _ {w : List ℕ} {p e : ℕ} where
+  pub array-parts : {m : ℕ} (ts : List Tree) → m ≡ fieldEnd w p → (p ≡ e → ⊥) → Is w p e (arrayTrees ts) → ArrayParts w p m e ts
+  unfolding bytes treeF
+  array-parts [] g n h = absurd (n (omega (arith, h .ends)))
+  array-parts {m} (t ∷ ts) g n h =
+      let a = trees-parts (trees (t ∷ ts)) g n h in
+      let z : t ≡ a .first = cc in
+      let y : trees ts ≡ a .rest = cc in
+      record {
+        first = t;
+        rest = ts;
+        same = refl;
+        first-is = subst (λ x. Is w p m (treeBytes x)) (sym z) (a .first-is);
+        rest-is = subst (λ x. Is w m e (treesBytes x)) (sym y) (a .rest-is);
+        after = a .after;
+        within = a .within;
+      }
+
+  pub array-none : (ts : List Tree) → p ≡ e → Is w p e (arrayTrees ts) → ts ≡ []
+  array-none [] z h = refl
+  array-none (t ∷ ts) z h = let y = trees-none (trees (t ∷ ts)) z h in let x : _≡_ {A = ℕ} 0 1 = cc in absurd (omega arith)
+
+  -- a tree before others
+  pub array-before : {m : ℕ} (t : Tree) (ts : List Tree) → Is w p m (treeBytes t) → Is w m e (arrayTrees ts) → Is w p e (arrayTrees (t ∷ ts))
+  unfolding bytes treeF treeBytes
+  array-before t ts h k = is-join h k
+
+module _ {w : List ℕ} {p m e : ℕ} (n : p ≡ e → ⊥) (g : m ≡ fieldEnd w p) (h : HoldsOk AllowedA arrayTrees w p e) where
+  pub array-places : (p + 6 ≤ m) × (m ≤ e) × (e ≤ length w)
+  array-places = let a = array-parts (h .value) g n (h .value-is) in (a .after, a .within, h .value-is .inside)
+
+  pub array-first : HoldsOk (Allowed depthMax) treeBytes w p m
+  array-first =
+      let a = array-parts (h .value) g n (h .value-is) in
+      record { value = a .first; allowed = subst AllowedA (a .same) (h .allowed) .0; value-is = a .first-is }
+
+  pub array-rest : HoldsOk AllowedA arrayTrees w m e
+  array-rest =
+      let a = array-parts (h .value) g n (h .value-is) in
+      record { value = a .rest; allowed = subst AllowedA (a .same) (h .allowed) .1; value-is = a .rest-is }
+
+-- a tree behind others: of those seen it is the last
+module _ {w : List ℕ} {p m e : ℕ} where
+  pub array-behind : (ts : List Tree) (t : Tree) → Is w p m (arrayTrees ts) → Is w m e (treeBytes t) → Is w p e (arrayTrees (ts ++ (t ∷ [])))
+  array-behind ts t h k = subst (Is w p e) (sym (trees-append ts (t ∷ []))) (is-join h (is-alone t k))
+
+  pub array-more : HoldsOk AllowedA arrayTrees w p m → HoldsOk (Allowed depthMax) treeBytes w m e → HoldsOk AllowedA arrayTrees w p e
+  array-more h k = record {
+    value = h .value ++ (k .value ∷ []);
+    allowed = All-append (Allowed depthMax) (h .value) (k .value ∷ []) (h .allowed) (k .allowed, tt);
+    value-is = array-behind (h .value) (k .value) (h .value-is) (k .value-is);
+  }
+
+-- ---- unlike all before it: none, or the first tree and the rest
+module _ (w q : List ℕ) (g ge at x xe : ℕ) where
+  pub unlike-none : at ≡ x → UnlikeIs w q g ge at x xe true
+  unfolding unlike all
+  unlike-none z gs seen t hg os hs ot ht = subst (λ l. true ≡ unlike gs l t) (sym (array-none seen z hs)) refl
+
+  module _ {m : ℕ} {o : Bool} (n : at ≡ x → ⊥) (z : m ≡ fieldEnd w at) (k : AlikeIs q g ge w at m w x xe o) where
+    pub unlike-found : o ≡ true → UnlikeIs w q g ge at x xe false
+    unfolding unlike all
+    unlike-found y gs seen t hg os hs ot ht =
+        let c = array-parts seen z n hs in
+        let oc = subst AllowedA (c .same) os in
+        let e = sym (k gs (c .first) t hg (oc .0) (c .first-is) ot ht) ∙ y in
+        sym (ap (λ b. not b && unlike gs (c .rest) t) e) ∙ sym (ap (λ l. unlike gs l t) (c .same))
+
+    pub unlike-next : o ≡ false → (r : Bool) → UnlikeIs w q g ge m x xe r → UnlikeIs w q g ge at x xe r
+    unfolding unlike all
+    unlike-next y r j gs seen t hg os hs ot ht =
+        let c = array-parts seen z n hs in
+        let oc = subst AllowedA (c .same) os in
+        let e = sym (k gs (c .first) t hg (oc .0) (c .first-is) ot ht) ∙ y in
+        j gs (c .rest) t hg (oc .1) (c .rest-is) ot ht
+        ∙ sym (ap (λ b. not b && unlike gs (c .rest) t) e) ∙ sym (ap (λ l. unlike gs l t) (c .same))
+
+-- ---- the beginning of a class
+module _ {w q : List ℕ} {g ge x xe k : ℕ} (h : SubsetIs q g ge w x xe k) (a m : ℕ) where
+  pub begins-other : (k ≡ m → ⊥) → BeginsIs w q g ge a x xe m false
+  unfolding begins unlike
+  begins-other n gs seen t hg os hs ot ht =
+      let e = sym (h gs t hg ht) in
+      sym (ap (λ i. eqb i m && unlike gs seen t) e ∙ ap (λ b. b && unlike gs seen t) (ne-eqb k m n))
+
+  pub begins-first : {r : Bool} → k ≡ m → UnlikeIs w q g ge a x xe r → BeginsIs w q g ge a x xe m r
+  unfolding begins unlike
+  begins-first {r} y j gs seen t hg os hs ot ht =
+      let e = sym (h gs t hg ht) in
+      j gs seen t hg os hs ot ht ∙ sym (ap (λ i. eqb i m && unlike gs seen t) e ∙ ap (λ b. b && unlike gs seen t) (eq-eqb k m y))

@@ -1,0 +1,88 @@
+-- What a stage other than group makes of one tree.
+use mathlib.Core.Path.{_≡_, refl, sym, ap, _∙_}
+use mathlib.Core.List.{List, [], _∷_, append-nil}
+use mathlib.Core.Bool.{Bool, true, false, cond, _&&_}
+use mathlib.Core.Option.{Option, none, some, Option·map}
+use Prim.Native.Nat.{ℕ}
+use native.Mathlib.Omega.{arith}
+use Rattle.format.specs.Options.{_>>=_}
+use Rattle.format.specs.OptionLaws.{leb-yes, some-equal}
+use Rattle.format.specs.Lists.{filter, all, gather, each}
+use Rattle.format.specs.Limits.{treeMax, depthMax}
+use Rattle.format.specs.Tree.{Tree, v}
+use Rattle.format.specs.Size.{size, depth, depthL, sizeL, rootSize, fits}
+use Rattle.format.specs.Within.{Allowed, AllowedA}
+use Rattle.query.specs.Query.{Path, Criterion, Item, Stage, match, unwind, project, lookup}
+use Rattle.query.specs.Rules.{OkS}
+use Rattle.stages.specs.Criteria.{holds}
+use Rattle.stages.specs.Merge.{merge, build}
+use Rattle.stages.specs.Unwind.{unwound}
+use Rattle.stages.specs.Project.{projected}
+use Rattle.stages.specs.Lookup.{looked}
+use Rattle.stages.specs.Stages.{outcome, leaving, isGroup, going, large, after, step, stages}
+use Rattle.stages.specs.KeepLaws.{stages-allowed}
+use Rattle.writing.specs.UnwoundLaws.{unwound-leaves}
+
+fits-of : {x : Tree} → Allowed depthMax x → fits x ≡ true
+unfolding fits
+fits-of {x} h = rw (leb-yes (size x) treeMax (h .small), leb-yes (depth x) depthMax (h .shallow)) refl
+
+-- ---- match and unwind
+pub step-match : (us : List Tree) (c : Criterion) {x : Tree} → Allowed depthMax x → step us (match c) (going (x ∷ [])) ≡ going (cond (holds c x) (x ∷ []) [])
+unfolding step isGroup outcome filter after leaving all
+step-match us c {x} h = go (holds c x)
+  where
+    go : (b : Bool) → after (leaving (some (cond b (x ∷ []) []))) ≡ going (cond b (x ∷ []) [])
+    go true = rw (fits-of h) refl
+    go false = refl
+
+pub step-unwind : (us : List Tree) (p : Path) {x : Tree} → Allowed depthMax x → step us (unwind p) (going (x ∷ [])) ≡ going (unwound p x)
+unfolding step isGroup outcome gather after
+step-unwind us p {x} h = ap (λ l. after (leaving (some l))) (append-nil (unwound p x)) ∙ ap after (unwound-leaves p x h)
+
+-- ---- a tree that is built fits, or nothing is built
+pub build-fits : (s : Tree) (ts : List Tree) {y : Tree} → fits s ≡ true → build s ts ≡ some y → fits y ≡ true
+unfolding build
+build-fits s [] {y} f e = ap fits (sym (some-equal s y e)) ∙ f
+build-fits s (t ∷ ts) {y} f e = go (fits t) (fits (merge s t)) refl e (λ g k. build-fits (merge s t) ts g k)
+  where
+    go : (a b : Bool) → fits (merge s t) ≡ b → cond (a && b) (build (merge s t) ts) none ≡ some y
+        → (fits (merge s t) ≡ true → build (merge s t) ts ≡ some y → fits y ≡ true) → fits y ≡ true
+    go true true g e k = k g e
+    go true false g e k = let z : _≡_ {A = ℕ} 0 1 = cc in absurd (omega arith)
+    go false b g e k = let z : _≡_ {A = ℕ} 0 1 = cc in absurd (omega arith)
+
+pub void-fits : fits v ≡ true
+unfolding fits size sizeL rootSize depth depthL
+void-fits = refl
+
+one-leaves : (f : Tree → Option Tree) (x : Tree) {y : Tree} → f x ≡ some y → fits y ≡ true → leaving (each f (x ∷ [])) ≡ some (y ∷ [])
+unfolding each _>>=_ leaving all
+one-leaves f x {y} e g = ap (λ o. leaving (o >>= λ z. Option·map (λ zs. z ∷ zs) (some []))) e ∙ rw g refl
+
+none-leaves : (f : Tree → Option Tree) (x : Tree) → f x ≡ none → leaving (each f (x ∷ [])) ≡ none
+unfolding each _>>=_ leaving
+none-leaves f x e = ap (λ o. leaving (o >>= λ z. Option·map (λ zs. z ∷ zs) (some []))) e
+
+-- what a stage that is allowed gives of an allowed tree is allowed
+pub step-allowed : (us : List Tree) (s : Stage) (x : Tree) (ys : List Tree) → AllowedA us → OkS s → Allowed depthMax x → step us s (going (x ∷ [])) ≡ going ys → AllowedA ys
+unfolding stages
+step-allowed us s x ys j g h e = stages-allowed us (s ∷ []) (x ∷ []) ys j (g, tt) (h, tt) e
+
+-- ---- project
+pub step-project : (us : List Tree) (is : List Item) (x : Tree) {y : Tree} → projected is x ≡ some y → step us (project is) (going (x ∷ [])) ≡ going (y ∷ [])
+unfolding step isGroup outcome after projected
+step-project us is x e = ap after (one-leaves (projected is) x e (build-fits v _ void-fits e))
+
+pub project-none : (us : List Tree) (is : List Item) (x : Tree) → projected is x ≡ none → step us (project is) (going (x ∷ [])) ≡ large
+unfolding step isGroup outcome after
+project-none us is x e = ap after (none-leaves (projected is) x e)
+
+-- ---- lookup
+pub step-lookup : (us : List Tree) (q r p : Path) (x : Tree) {y : Tree} → Allowed depthMax x → looked q r p us x ≡ some y → step us (lookup q r p) (going (x ∷ [])) ≡ going (y ∷ [])
+unfolding step isGroup outcome after looked
+step-lookup us q r p x h e = ap after (one-leaves (looked q r p us) x e (build-fits x _ (fits-of h) e))
+
+pub lookup-none : (us : List Tree) (q r p : Path) (x : Tree) → looked q r p us x ≡ none → step us (lookup q r p) (going (x ∷ [])) ≡ large
+unfolding step isGroup outcome after
+lookup-none us q r p x e = ap after (none-leaves (looked q r p us) x e)

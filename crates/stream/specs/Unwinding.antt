@@ -1,0 +1,67 @@
+-- Loops over the outcomes of the tree at the front, each of which goes through the stages behind the unwind: what is right
+-- for the outcomes that are left is right for all.
+use mathlib.Core.Path.{_≡_}
+use mathlib.Core.List.{List, [], _∷_, map}
+use mathlib.Core.Option.{some}
+use Prim.Native.Nat.{ℕ, _≤_, _<_}
+use lib.ListN.{length, take, drop}
+use Rattle.format.specs.Limits.{treeMax, depthMax}
+use Rattle.format.specs.Tree.{Tree, Trees, list, labels, find}
+use Rattle.format.specs.Bytes.{treeBytes}
+use Rattle.format.specs.Within.{Allowed, AllowedA}
+use Rattle.format.specs.Area.{Is}
+use Rattle.format.specs.Stand.{treesBytes}
+use Rattle.query.specs.Query.{Path, Stage}
+use Rattle.query.specs.Rules.{OkP}
+use Rattle.stages.specs.Unwind.{holding, unwound}
+use Rattle.stages.specs.Stages.{going, stages}
+use Rattle.stream.specs.declared.sink.Sink.{Sink}
+use Rattle.stream.specs.Stretch.{before}
+use Rattle.stream.specs.Sink.{Open, Feeds}
+use Rattle.stream.specs.Feed.{Planned, Front}
+
+-- `Left a x ys`: of the outcomes of x by the path a, ys are left
+abbrev pub Leaves : Type 1
+Leaves = Path → Tree → List Tree → Type 0
+
+-- when ys were fed, all outcomes were
+pub record Carries (Left : Leaves) (t₀ : List ℕ) (s₀ : Sink) (t : List ℕ) (s : Sink) (a : Path) (ss : List Stage) (us : List Tree) (x : Tree) : Type 0 where
+  pub left : List Tree
+  pub left-is : Left a x left
+  pub carry : (v : List ℕ) (r : Sink) → Feeds t s v r (stages us (before ss) (going left)) → Feeds t₀ s₀ v r (stages us (before ss) (going (unwound a x)))
+
+-- from the area t₀ with the sink s₀ the loop came to the area t with the sink s; the tree at the front is as it was
+pub record Unwinding (Left : Leaves) (t₀ : List ℕ) (te : ℕ) (q : List ℕ) (c ce m e : ℕ) (j : List ℕ) (s₀ : Sink) (t : List ℕ) (s : Sink) : Type 0 where
+  pub same : length t ≡ length t₀
+  pub kept : take treeMax t ≡ take treeMax t₀
+  pub goes : Open s
+  pub rest : (a : Path) (ss : List Stage) (us : List Tree) (x : Tree) → OkP a → Is q c ce a → Planned q m e j ss us → Front t₀ te x → Carries Left t₀ s₀ t s a ss us x
+
+-- the first of ys stands in v behind the room of the front, up to o, and others are left
+pub record Parted (After : Leaves) (v : List ℕ) (o : ℕ) (a : Path) (x : Tree) (ys : List Tree) : Type 0 where
+  pub first : Tree
+  pub others : List Tree
+  pub same : ys ≡ first ∷ others
+  pub allowed : Allowed depthMax first
+  pub first-is : Is v treeMax o (treeBytes first)
+  pub others-are : After a x others
+
+-- ---- what is left, told in two ways
+
+-- all but the first i
+abbrev pub LeftFrom : ℕ → Leaves
+LeftFrom i a x ys = ys ≡ drop i (unwound a x)
+
+-- one for each tree that stands in t from f to u, where the path is of the label k alone
+pub record LeftUnder (k : ℕ) (t : List ℕ) (f u : ℕ) (a : Path) (x : Tree) (ys : List Tree) : Type 0 where
+  pub array : Trees
+  pub array-is : Is t f u (treesBytes array)
+  pub same : ys ≡ map (holding k x) (list array)
+  pub allowed : AllowedA ys
+
+-- the label k, which is a byte, and its array in t from f to u, whatever path of one label and whatever tree stand there
+pub record Under (t : List ℕ) (te : ℕ) (q : List ℕ) (c ce k f u : ℕ) : Type 0 where
+  pub byte : k < 256
+  pub within : u ≤ te
+  pub path-is : (a : Path) → Is q c ce a → a ≡ k ∷ []
+  pub array-is : (x : Tree) → Is t 0 te (treeBytes x) → (array : Trees) × (find k (labels x) ≡ some (list array)) × Is t f u (treesBytes array)

@@ -1,0 +1,44 @@
+-- Made from Proof.ans by answers.py, which overwrites this file: edit Proof.ans.
+use mathlib.Core.Path.{refl}
+use native.Mathlib.Omega.{arith}
+use Rattle.stretches.specs.LaterLaws.{held-bounds, held-group, held-post}
+use borrow.Author.Needs.{needs}
+use Rattle.stretches.proofs.later.next_stretch.Statement.{statement}
+use Rattle.stretches.proofs.later.next_stretch.Tie as tie
+use Rattle.stretches.proofs.later.next_stretch.Reads as reads
+use Rattle.stretches.proofs.later.next_stretch.Lts as lts
+use Rattle.format.proofs.area.move_down.Reads as move-down-reads
+use Rattle.stretches.proofs.group.regroup.Reads as regroup-reads
+
+sub-from : tie.Need-sub-from
+sub-from c = search needs
+
+add-move-down : tie.Need-add-move-down
+add-move-down c = let b = held-bounds (c .before .before .before .before .pre) in omega (arith, b)
+
+move-down-requires : tie.Need-move-down-requires
+move-down-requires c κs =
+    let b = held-bounds (c .before .before .before .before .pre) in
+    (omega arith, omega arith, omega (arith, b))
+
+regroup-requires : tie.Need-regroup-requires
+regroup-requires c κs =
+    held-group (c .before .before .before .before .before .before .before .before .pre)
+    (c .before .before .before .move-down .kept .0) _ refl
+    (c .before .before .before .move-down .ensures)
+
+same-length : tie.Need-same-length
+same-length c = search needs
+
+returns : tie.Need-returns
+returns c =
+    held-post (c .before .before .before .before .before .before .before .before .before .before .before .pre)
+    (c .before .before .before .before .before .before .move-down .kept .0) _ refl
+    (c .before .before .before .before .before .before .move-down .ensures)
+    (c .before .before .regroup .last .0) (c .before .before .regroup .result)
+    (c .before .before .regroup .ensures)
+
+pub next-stretch-spec : {M : Type 1} → statement M
+next-stretch-spec =
+    tie.close
+    (tie.spec sub-from add-move-down move-down-requires regroup-requires same-length returns)

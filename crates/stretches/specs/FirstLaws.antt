@@ -1,0 +1,140 @@
+-- Laws of the first stretch: what is right for the trees that are left is right for all.
+use mathlib.Core.Path.{_≡_, refl, sym, ap, subst, _∙_}
+use mathlib.Core.List.{List, [], _∷_, _++_}
+use mathlib.Core.Bool.{Bool, true, false}
+use Prim.Native.Nat.{ℕ, _+_, _-_, _*_, _≤_, _<_}
+use native.Mathlib.Omega.{arith}
+use lib.ListN.{length, take, drop}
+use Rattle.format.specs.declared.area.Out.{Out}
+use Rattle.format.specs.declared.area.Out.the-variants.{At, TooLarge}
+use Rattle.format.specs.Limits.{treeMax, depthMax, workMin}
+use Rattle.format.specs.Tree.{Tree}
+use Rattle.format.specs.SizeLaws.{length-tree}
+use Rattle.format.specs.Bytes.{treeBytes}
+use Rattle.format.specs.Within.{Allowed, AllowedA}
+use Rattle.format.specs.Area.{Is, Wrote, fieldEnd}
+use Rattle.format.specs.AreaLaws.{is-part, told, written}
+use Rattle.query.specs.Query.{Stage}
+use Rattle.query.specs.Places.{arrayTrees, HoldsOk}
+use Rattle.stages.specs.Stages.{State, going, stages}
+use Rattle.stream.specs.declared.sink.Sink.{Sink}
+use Rattle.stream.specs.declared.sink.Sink.the-variants.{Len, Over, Large}
+use Rattle.stream.specs.Stretch.{before}
+use Rattle.stream.specs.StretchLaws.{before-free}
+use Rattle.stream.specs.Sink.{isLarge, ends, Collects, Open, Feeds}
+use Rattle.stream.specs.SinkLaws.{feeds-move, feeds-more, feeds-stop, feeds-none, feeds-open}
+use Rattle.stream.specs.TailLaws.{ends-beyond}
+use Rattle.stream.specs.Feed.{Planned, Front, FeedReady, FeedPost}
+use Rattle.grouping.specs.FirstLaws.{array-parts, array-none}
+use Rattle.stretches.specs.Stretch.{Shows, FirstReady, FirstPost}
+
+-- ---- from nothing
+pub open-nothing : Open (Len 0)
+unfolding Open
+open-nothing = omega arith
+
+collects-nothing : (w : List ℕ) → Collects w (Len 0) []
+unfolding Collects
+collects-nothing w = (refl, omega arith, refl)
+
+pub shows-all : {w v : List ℕ} {r : Sink} {st : State} → Feeds w (Len 0) v r st → Shows v r st
+shows-all {w} f = record { fed = f .fed [] (collects-nothing w) }
+
+-- ---- the trees from i on
+abbrev pub FirstFrom : (inp w : List ℕ) (s : Sink) (v q : List ℕ) (p e : ℕ) (j : List ℕ) (i : ℕ) → Sink → Type 0
+FirstFrom inp w s v q p e j i r = (ts : List Tree) (ss : List Stage) (us : List Tree) → AllowedA ts → Is inp i (length inp) (arrayTrees ts) → Planned q p e j ss us
+    → Feeds w s v r (stages us (before ss) (going ts))
+
+pub record FirstGoing (inp w₀ q : List ℕ) (p e : ℕ) (j w : List ℕ) (s : Sink) (i : ℕ) : Type 0 where
+  pub left : HoldsOk AllowedA arrayTrees inp i (length inp)
+  pub same : length w ≡ length w₀
+  pub goes : Open s
+  pub right : (v : List ℕ) (r : Sink) → FirstFrom inp w s v q p e j i r → FirstFrom inp w₀ (Len 0) v q p e j 3 r
+
+module _ {inp w₀ q : List ℕ} {p e : ℕ} {j : List ℕ} (h : FirstReady inp w₀ q p e j) where
+  pub first-begin : FirstGoing inp w₀ q p e j w₀ (Len 0) 3
+  first-begin = record { left = h .input; same = refl; goes = open-nothing; right = λ v r k. k }
+
+  module _ {w : List ℕ} {s : Sink} {i : ℕ} (g : FirstGoing inp w₀ q p e j w s i) where
+    pub first-room : 27988 ≤ length w
+    first-room = omega (arith, h .room, g .same)
+
+    pub first-end : i ≡ length inp → FirstPost inp w q p e j s
+    first-end z ts ss us o t k = shows-all (g .right w s last ts ss us o t k)
+      where
+        last : FirstFrom inp w s w q p e j i s
+        last ts ss us o t k =
+            subst (λ l. Feeds w s w s (stages us (before ss) (going l))) (sym (array-none ts z t)) (feeds-none w s us (before ss) (before-free ss))
+
+    module _ (n : i ≡ length inp → ⊥) {m : ℕ} (z : m ≡ fieldEnd inp i) where
+      pub first-places : (i + 6 ≤ m) × (m ≤ length inp) × (m - i ≤ treeMax)
+      first-places =
+          let c = array-parts (g .left .value) z n (g .left .value-is) in
+          let o = subst AllowedA (c .same) (g .left .allowed) in
+          (c .after, c .within, omega (arith, c .first-is .ends, length-tree (c .first), o .0 .small))
+
+      module _ {v : List ℕ} {o : Out} (l : length v ≡ length w) (k : Wrote w v 0 treeMax (take (m - i) (drop i inp)) o) where
+        put : (t : Tree) → Allowed depthMax t → Is inp i m (treeBytes t) → Wrote w v 0 treeMax (treeBytes t) (At (m - i))
+        put t a b =
+            let d : take (m - i) (drop i inp) ≡ treeBytes t = is-part b in
+            let f : Wrote w v 0 treeMax (treeBytes t) o = subst (λ x. Wrote w v 0 treeMax x o) d k in
+            told o
+            (λ y q1.
+            let u : y ≡ m - i = omega (arith, f .fits y q1 .ends, b .ends) in
+            subst (λ x. Wrote w v 0 treeMax (treeBytes t) x) (q1 ∙ ap At u) f)
+            (λ q1. absurd (omega (arith, f .large q1 .over, length-tree t, a .small)))
+
+        first-front : (t : Tree) → Allowed depthMax t → Is inp i m (treeBytes t) → Front v (m - i) t
+        first-front t a b = record { allowed = a; tree-is = written (put t a b) (omega arith) refl }
+
+        first-ends : ends v ≡ ends w
+        first-ends =
+            let c = array-parts (g .left .value) z n (g .left .value-is) in
+            let a = subst AllowedA (c .same) (g .left .allowed) in
+            let f = put (c .first) (a .0) (c .first-is) .fits (m - i) refl in
+            ends-beyond w v (m - i) l (omega (arith, first-places, first-room)) (f .beyond)
+
+        pub first-feed : FeedReady v (m - i) q p e j s
+        first-feed =
+            let c = array-parts (g .left .value) z n (g .left .value-is) in
+            let a = subst AllowedA (c .same) (g .left .allowed) in
+            record {
+              list = h .list;
+              joined = h .joined;
+              tree = c .first;
+              planned = h .planned;
+              front = first-front (c .first) (a .0) (c .first-is);
+              room = omega (arith, h .room, g .same);
+              small = omega (arith, h .small, g .same);
+              goes = g .goes;
+            }
+
+        module _ {x : List ℕ} {r : Sink} (y : length x ≡ length v) (f : FeedPost v x (m - i) q p e j s r) where
+          fed : (t : Tree) (ss : List Stage) (us : List Tree) → Allowed depthMax t → Is inp i m (treeBytes t) → Planned q p e j ss us
+              → Feeds w s x r (stages us (before ss) (going (t ∷ [])))
+          fed t ss us a b d = feeds-move first-ends refl (f ss us t d (first-front t a b))
+
+          pub first-stop : (u : List ℕ) → isLarge r ≡ true → FirstPost inp u q p e j Large
+          first-stop u b ts ss us a t d = shows-all (g .right u Large stop ts ss us a t d)
+            where
+              stop : FirstFrom inp w s u q p e j i Large
+              stop ts ss us a t d =
+                  let c = array-parts ts z n t in
+                  let ok = subst AllowedA (c .same) a in
+                  subst (λ l2. Feeds w s u Large (stages us (before ss) (going l2))) (sym (c .same))
+                  (feeds-stop u us (before ss) (before-free ss) (c .first ∷ []) (c .rest) (fed (c .first) ss us (ok .0) (c .first-is) d) b)
+
+          pub first-again : isLarge r ≡ false → FirstGoing inp w₀ q p e j x r m
+          first-again b =
+              let c = array-parts (g .left .value) z n (g .left .value-is) in
+              let ok = subst AllowedA (c .same) (g .left .allowed) in
+              record {
+                left = record { value = c .rest; allowed = ok .1; value-is = c .rest-is };
+                same = y ∙ l ∙ g .same;
+                goes = feeds-open (omega (arith, first-room)) (g .goes) (fed (c .first) (h .list) (h .joined) (ok .0) (c .first-is) (h .planned)) b;
+                right = λ u r2 k2. g .right u r2 (λ ts ss us a t d.
+                    let c2 = array-parts ts z n t in
+                    let ok2 = subst AllowedA (c2 .same) a in
+                    subst (λ l2. Feeds w s u r2 (stages us (before ss) (going l2))) (sym (c2 .same))
+                    (feeds-more u us (before ss) (before-free ss) (c2 .first ∷ []) (c2 .rest) (fed (c2 .first) ss us (ok2 .0) (c2 .first-is) d) b (k2 (c2 .rest) ss us (ok2 .1) (c2 .rest-is) d)));
+              }

@@ -1,0 +1,78 @@
+-- What the functions of a stretch ask of the areas, and what they do: the trees of an array go through the stages up to the
+-- next group, or are grouped, and the trees of the classes go on so.
+use mathlib.Core.Path.{_≡_}
+use mathlib.Core.List.{List, [], _∷_}
+use Prim.Native.Nat.{ℕ, _+_, _*_, _≤_, _^_}
+use lib.ListN.{length, take}
+use Rattle.format.specs.Limits.{treeMax, depthMax, aggregatesMax, groupingMax, workMin}
+use Rattle.format.specs.Lists.{each}
+use Rattle.format.specs.Tree.{Tree}
+use Rattle.format.specs.Bytes.{treeBytes}
+use Rattle.format.specs.Within.{Allowed, AllowedA}
+use Rattle.format.specs.Area.{Is}
+use Rattle.query.specs.Query.{Pair, Stage, group}
+use Rattle.query.specs.Rules.{OkPairs, OkS}
+use Rattle.query.specs.Places.{pairsBytes, stagesBytes, arrayTrees, HoldsOk}
+use Rattle.stages.specs.Group.{Class, classTree, grouped}
+use Rattle.stages.specs.Stages.{State, going, after, stages}
+use Rattle.stream.specs.declared.sink.Sink.{Sink}
+use Rattle.stream.specs.Stretch.{before, behind}
+use Rattle.stream.specs.Sink.{treesMax, Fed, Open, Feeds}
+use Rattle.stream.specs.Feed.{Planned}
+use Rattle.stretches.specs.declared.next.Next.{Next}
+
+-- the collector at the end of v has just the trees of the state
+pub record Shows (v : List ℕ) (r : Sink) (st : State) : Type 0 where
+  pub fed : Fed v r [] st
+
+-- ---- the first stretch
+-- the trees of the input stand in i behind its head, stages in q from p to e, the joined trees in j
+pub record FirstReady (i w q : List ℕ) (p e : ℕ) (j : List ℕ) : Type 0 where
+  pub input : HoldsOk AllowedA arrayTrees i 3 (length i)
+  pub list : List Stage
+  pub joined : List Tree
+  pub planned : Planned q p e j list joined
+  pub room : treeMax * length (before list) + 27988 ≤ length w
+  pub small : length w ≤ workMin
+
+-- whatever trees and stages stand there, what leaves the stretch was collected
+abbrev pub FirstPost : (i v q : List ℕ) (p e : ℕ) (j : List ℕ) → Sink → Type 0
+FirstPost i v q p e j r = (ts : List Tree) (ss : List Stage) (us : List Tree) → AllowedA ts → Is i 3 (length i) (arrayTrees ts) → Planned q p e j ss us
+    → Shows v r (stages us (before ss) (going ts))
+
+-- ---- a group and the stages behind it
+-- the group's pairs, in q: aggregates from f to u, grouping pairs from g to h
+pub record Pairs (q : List ℕ) (f u g h : ℕ) (ags gs : List Pair) : Type 0 where
+  pub aggregates-ok : OkPairs aggregatesMax ags
+  pub aggregates-is : Is q f u (pairsBytes ags)
+  pub grouping-ok : OkPairs groupingMax gs
+  pub grouping-is : Is q g h (pairsBytes gs)
+
+-- the trees of an array, in w up to n
+pub record Gathered (w : List ℕ) (n : ℕ) (ts : List Tree) : Type 0 where
+  pub allowed : AllowedA ts
+  pub trees-is : Is w 0 n (arrayTrees ts)
+
+-- such pairs and trees, and the stages behind the group, from m to e; there is room for the array and the numbers behind it,
+-- for a tree at each of the stages, for building and for the collector
+pub record GroupReady (w : List ℕ) (n : ℕ) (q : List ℕ) (f u g h m e : ℕ) (j : List ℕ) : Type 0 where
+  pub aggregates : List Pair
+  pub grouping : List Pair
+  pub pairs : Pairs q f u g h aggregates grouping
+  pub trees : List Tree
+  pub gathered : Gathered w n trees
+  pub short : n ≤ treesMax
+  pub list : List Stage
+  pub joined : List Tree
+  pub planned : Planned q m e j list joined
+  pub room : treeMax * length (before list) + 49832 ≤ length w
+  pub small : length w ≤ workMin
+
+-- what the trees of these classes become in the stages up to the next group
+unfoldable pub through : List Tree → List Stage → List Pair → List Pair → List Class → State
+through us ss ags gs cs = stages us (before ss) (after (each (classTree ags gs) cs))
+
+-- whatever stands there, what leaves the stretch was collected
+abbrev pub GroupPost : (w v : List ℕ) (n : ℕ) (q : List ℕ) (f u g h m e : ℕ) (j : List ℕ) → Sink → Type 0
+GroupPost w v n q f u g h m e j r = (ags gs : List Pair) (ts : List Tree) (ss : List Stage) (us : List Tree) → Pairs q f u g h ags gs → Gathered w n ts → Planned q m e j ss us
+    → Shows v r (through us ss ags gs (grouped gs ts))
