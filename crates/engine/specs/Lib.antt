@@ -15,4 +15,5 @@ pub mod FinishLaws
 pub mod PerformLaws
 pub mod InterfaceLaws
 pub mod CutLaws
+pub mod Conditions
 pub mod Examples

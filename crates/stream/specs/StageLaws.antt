@@ -23,7 +23,7 @@ use Rattle.stages.specs.Stages.{outcome, leaving, isGroup, going, large, after,
 use Rattle.stages.specs.KeepLaws.{stages-allowed}
 use Rattle.writing.specs.UnwoundLaws.{unwound-leaves}
 
-fits-of : {x : Tree} → Allowed depthMax x → fits x ≡ true
+pub fits-of : {x : Tree} → Allowed depthMax x → fits x ≡ true
 unfolding fits
 fits-of {x} h = rw (leb-yes (size x) treeMax (h .small), leb-yes (depth x) depthMax (h .shallow)) refl
 

@@ -1,6 +1,6 @@
 -- Laws of the later stretches: one after another they come to what the plain run's stages come to.
 use mathlib.Core.Path.{_≡_, refl, sym, ap, subst, _∙_}
-use mathlib.Core.List.{List, [], _∷_, _++_}
+use mathlib.Core.List.{List, [], _∷_, _++_, map}
 use mathlib.Core.Bool.{Bool, true, false, cond, not, _&&_}
 use mathlib.Core.Option.{Option, none, some, Option·map}
 use Prim.Native.Nat.{ℕ, suc, _+_, _-_, _*_, _≤_, _<_}
@@ -10,28 +10,31 @@ use lib.Seq.{take-add, drop-at, length-take-le}
 use lib.Dec.{leb}
 use Rattle.format.specs.declared.area.Out.{Out}
 use Rattle.format.specs.declared.area.Out.the-variants.{At, TooLarge}
-use Rattle.format.specs.Limits.{treeMax, arrayMax, stagesMax, workMin}
+use Rattle.format.specs.Limits.{treeMax, depthMax, arrayMax, stagesMax, workMin}
 use Rattle.format.specs.Options.{_>>=_}
 use Rattle.format.specs.OptionLaws.{leb-yes, leb-no}
-use Rattle.format.specs.Lists.{All, all, each}
+use Rattle.format.specs.Lists.{All, filter, all, each}
 use Rattle.format.specs.ListLaws.{All-left, All-right}
 use Rattle.format.specs.Tree.{Tree, trees, v}
 use Rattle.format.specs.Size.{sizeA, arraySize, fits}
 use Rattle.format.specs.SizeLaws.{length-treeFs}
-use Rattle.format.specs.Within.{AllowedA}
+use Rattle.format.specs.Within.{Allowed, AllowedA}
 use Rattle.format.specs.Area.{Is, Wrote}
 use Rattle.format.specs.AreaLaws.{written}
-use Rattle.query.specs.Query.{Pair, Stage, group}
+use Rattle.query.specs.Query.{Path, Item, Pair, Stage, group}
 use Rattle.query.specs.Rules.{OkS}
 use Rattle.query.specs.Places.{arrayTrees, stagesBytes}
-use Rattle.stages.specs.Group.{classTree, grouped}
+use Rattle.stages.specs.Merge.{build}
+use Rattle.stages.specs.Project.{item, projected}
+use Rattle.stages.specs.Lookup.{looked}
+use Rattle.stages.specs.Group.{Class, aggregated, identified, sourced, classTree, grouped}
 use Rattle.stages.specs.Stages.{State, going, large, long, isGroup, outcome, leaving, after, step, stages}
 use Rattle.stages.specs.KeepLaws.{stages-allowed}
 use Rattle.stream.specs.declared.sink.Sink.{Sink}
 use Rattle.stream.specs.declared.sink.Sink.the-variants.{Len, Over, Large}
 use Rattle.stream.specs.Stretch.{before, behind}
 use Rattle.stream.specs.StretchLaws.{before-behind, stretch, stages-large}
-use Rattle.stream.specs.StageLaws.{build-fits, void-fits}
+use Rattle.stream.specs.StageLaws.{fits-of, build-fits, void-fits}
 use Rattle.stream.specs.Sink.{treesMax, isLarge, ends, Collects, Fed}
 use Rattle.stream.specs.Feed.{Planned}
 use Rattle.stretches.specs.declared.ended.Ended.{Ended}
@@ -142,10 +145,12 @@ ends-long w z = record {
 }
 
 -- ---- a group, of an array that is short enough or too long
-each-fits : {A : Type 0} (f : A → Option Tree) → ((a : A) (y : Tree) → f a ≡ some y → fits y ≡ true) → (cs : List A) → leaving (each f cs) ≡ each f cs
+-- trees that fit leave as they are
+pub each-fits : {A : Type 0} (P : A → Type 0) (f : A → Option Tree) → ((a : A) (y : Tree) → P a → f a ≡ some y → fits y ≡ true)
+    → (cs : List A) → All P cs → leaving (each f cs) ≡ each f cs
 unfolding each leaving all _>>=_
-each-fits f h [] = refl
-each-fits {A} f h (c ∷ cs) = go (f c) (each f cs) (h c) (each-fits f h cs)
+each-fits P f h [] p = refl
+each-fits {A} P f h (c ∷ cs) p = go (f c) (each f cs) (λ y e. h c y (p .0) e) (each-fits P f h cs (p .1))
   where
     go : (x : Option Tree) (y : Option (List Tree)) → ((t : Tree) → x ≡ some t → fits t ≡ true) → leaving y ≡ y
         → leaving (x >>= λ t. Option·map (λ ts. t ∷ ts) y) ≡ (x >>= λ t. Option·map (λ ts. t ∷ ts) y)
@@ -157,13 +162,29 @@ each-fits {A} f h (c ∷ cs) = go (f c) (each f cs) (h c) (each-fits f h cs)
         more true e = refl
         more false e = let z : _≡_ {A = ℕ} 0 1 = cc in absurd (omega arith)
 
-class-fits : (ags gs : List Pair) (c : _) (y : Tree) → classTree ags gs c ≡ some y → fits y ≡ true
-unfolding classTree
-class-fits ags gs c y e = build-fits v _ void-fits e
+-- what is built from the bare void tree fits
+made-fits : {A : Type 0} (f : A → List Tree) (cs : List A) → leaving (each (λ c. build v (f c)) cs) ≡ each (λ c. build v (f c)) cs
+made-fits {A} f cs = each-fits (λ c. Unit {0}) (λ c. build v (f c)) (λ c y p e. build-fits v (f c) void-fits e) cs (any cs)
+  where
+    any : (xs : List A) → All (λ c. Unit {0}) xs
+    any [] = tt
+    any (x ∷ xs) = (tt, any xs)
 
-group-step : (us : List Tree) (ags gs : List Pair) (ts : List Tree) → arraySize ts ≤ arrayMax → step us (group ags gs) (going ts) ≡ after (each (classTree ags gs) (grouped gs ts))
+pub projected-leave : (is : List Item) (ts : List Tree) → leaving (each (projected is) ts) ≡ each (projected is) ts
+unfolding projected
+projected-leave is ts = made-fits (λ t. map (item t) is) ts
+
+pub looked-leave : (q r p : Path) (us ts : List Tree) → AllowedA ts → leaving (each (looked q r p us) ts) ≡ each (looked q r p us) ts
+unfolding looked
+looked-leave q r p us ts a = each-fits (Allowed depthMax) (looked q r p us) (λ t y h e. build-fits t _ (fits-of h) e) ts a
+
+classes-leave : (ags gs : List Pair) (cs : List Class) → leaving (each (classTree ags gs) cs) ≡ each (classTree ags gs) cs
+unfolding classTree
+classes-leave ags gs cs = made-fits (λ c. map (aggregated c) ags ++ map (identified c) (filter (sourced c) gs)) cs
+
+pub group-step : (us : List Tree) (ags gs : List Pair) (ts : List Tree) → arraySize ts ≤ arrayMax → step us (group ags gs) (going ts) ≡ after (each (classTree ags gs) (grouped gs ts))
 unfolding step isGroup outcome
-group-step us ags gs ts b = rw (leb-yes (arraySize ts) arrayMax b) (ap after (each-fits (classTree ags gs) (class-fits ags gs) (grouped gs ts)))
+group-step us ags gs ts b = rw (leb-yes (arraySize ts) arrayMax b) (ap after (classes-leave ags gs (grouped gs ts)))
 
 group-long : (us : List Tree) (ags gs : List Pair) (ts : List Tree) → arrayMax < arraySize ts → step us (group ags gs) (going ts) ≡ long
 unfolding step isGroup
