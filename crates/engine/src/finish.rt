@@ -10,6 +10,7 @@ use format::area::clear;
 use format::area::emit;
 use format::area::field_end;
 use format::area::put_head;
+use stream::sink::Map;
 use stretches::ended::Ended;
 
 /// A refusal in or after the stages: the result area is zero.
@@ -43,7 +44,7 @@ fn accept(w: &[u8], n: usize, result: &mut [u8]) -> Answer
     if result.len() < n + 3 {
         return fail(Refusal::ResultLong, result);
     }
-    let from = w.len() - 21844;
+    let from = w.len() - Map::END;
     write_array(&mut result[..n + 3], &w[from..from + n]);
     Answer::Accepted(n + 3)
 }

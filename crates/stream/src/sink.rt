@@ -1,10 +1,22 @@
 //! The collector at the end of the work area: the trees that left a stretch, one behind another.
 //! They are the trees of an array without its head, which has 3 bytes. So they may take 16,381 bytes; the last 21,844 bytes
-//! of every lent tail are the collector's, of which 5,460 are reserved for what comes after.
+//! of every lent tail are the collector's, of which 5,460 are reserved: later requests need a number for each tree there.
 ghost use mathlib.Core.Path.{_≡_};
 ghost use Rattle.stream.specs.Sink.{isLarge, CollectReady, Collected};
 use format::area::Out;
 use format::area::copy;
+use format::limits::Limits;
+
+/// The parts of the work area that stand at fixed places, by name.
+pub struct Map;
+
+impl Map {
+    /// The front part, before the trees of a later stretch: the array that entered its group, and 5,460 bytes reserved.
+    pub const FRONT: usize = 21844;
+
+    /// The end part of every lent tail: the collected array, and 5,460 bytes reserved.
+    pub const END: usize = 21844;
+}
 
 /// What the collector holds: so many bytes; more than an array may have; or that a tree was too large, which ends the run.
 pub enum Sink {
@@ -29,8 +41,8 @@ fn append(t: &mut [u8], te: usize, n: usize) -> Sink
     requires { ⌜ CollectReady (now t) te (Sink.Len n) ⌝ }
     ensures { λ r. ⌜ Collected (now (t .entry)) (now (t .exit)) te (Sink.Len n) r ⌝ }
 {
-    let base = t.len() - 21844;
-    let out = copy(t, 0, te, base + n, base + 16381);
+    let base = t.len() - Map::END;
+    let out = copy(t, 0, te, base + n, base + (Limits::ARRAY - 3));
     let Out::At(e) = out else {
         return Sink::Over;
     };

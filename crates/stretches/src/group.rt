@@ -12,6 +12,7 @@ use format::area::field_end;
 use grouping::class::class_tree;
 use grouping::first::begins;
 use stream::feed::feed;
+use stream::sink::Map;
 use stream::sink::Sink;
 use stream::sink::is_large;
 
@@ -52,11 +53,11 @@ fn feed_class<'a>(
     if !begins(w, q, g, h, 0, x, xe, k) {
         return s;
     }
-    let out = class_tree(w, q, f, u, g, h, x, xe, n, 21844);
+    let out = class_tree(w, q, f, u, g, h, x, xe, n, Map::FRONT);
     let Out::At(o) = out else {
         return Sink::Large;
     };
-    feed(&mut w[21844..], o - 21844, q, m, e, j, s)
+    feed(&mut w[Map::FRONT..], o - Map::FRONT, q, m, e, j, s)
 }
 
 /// The classes of the subset k, in the order of their first trees.

@@ -5,6 +5,7 @@ use crate::group::regroup;
 use crate::next::Next;
 use crate::next::next_group;
 use format::area::move_down;
+use stream::sink::Map;
 use stream::sink::Sink;
 
 /// How a run ends whose last stretch left this in the collector.
@@ -34,7 +35,7 @@ fn next_stretch<'a>(
     requires { ⌜ HeldReady (now w) n (now q) f u g h m e (now j) ⌝ }
     ensures { λ r. ⌜ HeldPost (now (w .entry)) (now (w .exit)) n (now (q .entry)) f u g h m e (now (j .entry)) r ⌝ }
 {
-    let from = w.len() - 21844;
+    let from = w.len() - Map::END;
     move_down(w, from, from + n, 0);
     regroup(w, n, q, f, u, g, h, m, e, j)
 }

@@ -14,6 +14,9 @@ sub-base c = search needs
 add-copy : tie.Need-add-copy
 add-copy c = omega (arith, (law.room-of (c .before .before .pre)))
 
+sub-copy : tie.Need-sub-copy
+sub-copy c = search needs
+
 add-copy-2 : tie.Need-add-copy-2
 add-copy-2 c = search needs
 
@@ -62,6 +65,7 @@ append-spec =
     (tie.spec
     sub-base
     add-copy
+    sub-copy
     add-copy-2
     copy-requires
     enum-known-out
