@@ -48,26 +48,28 @@ leave ts h = rw (all-fit ts h) refl
 
 -- an input and a joined array within the limits, a work area that is long enough, any result area
 module _ (ts us : List Tree) (wt : Within ts) (wu : Within us) (work : ℕ) (enough : workMin ≤ work) (area : List ℕ) where
-  -- the outcome of the query of this one stage
+  -- what a list of stages, of none to eight, comes to: one statement about the whole list
+  pub run-stages : (ss : List Stage) → OkQ ss → plainRun (queryBytes ss) (arrayBytes ts) (arrayBytes us) work area ≡ outcomeIn area (final (length area) (stages us ss (going ts)))
+  unfolding plainRun
+  run-stages ss o =
+      let r : Reads (queryBytes ss) (arrayBytes ts) (arrayBytes us) work = record {
+        enough = enough;
+        query = ss;
+        query-is = read-query (queryBytes ss) ss .1 (query-back ss o);
+        input = ts;
+        input-is = read-array (arrayBytes ts) ts .1 (array-back ts wt);
+        joined = us;
+        joined-is = read-array (arrayBytes us) us .1 (array-back us wu);
+      } in
+      ap (outcomeIn area) (reads-ending (queryBytes ss) (arrayBytes ts) (arrayBytes us) work r (length area))
+
+  -- the outcome of the query of one stage
   abbrev alone : Stage → Outcome
   alone s = plainRun (queryBytes (s ∷ [])) (arrayBytes ts) (arrayBytes us) work area
 
-  read : (s : Stage) → OkQ (s ∷ []) → Reads (queryBytes (s ∷ [])) (arrayBytes ts) (arrayBytes us) work
-  read s o = record {
-    enough = enough;
-    query = s ∷ [];
-    query-is = read-query (queryBytes (s ∷ [])) (s ∷ []) .1 (query-back (s ∷ []) o);
-    input = ts;
-    input-is = read-array (arrayBytes ts) ts .1 (array-back ts wt);
-    joined = us;
-    joined-is = read-array (arrayBytes us) us .1 (array-back us wu);
-  }
-
   stage-alone : (s : Stage) → OkQ (s ∷ []) → {st : State} → step us s (going ts) ≡ st → alone s ≡ outcomeIn area (final (length area) st)
-  unfolding plainRun stages read
-  stage-alone s o e =
-      ap (outcomeIn area) (reads-ending (queryBytes (s ∷ [])) (arrayBytes ts) (arrayBytes us) work (read s o) (length area)
-      ∙ ap (final (length area)) e)
+  unfolding stages
+  stage-alone s o e = run-stages (s ∷ []) o ∙ ap (λ x. outcomeIn area (final (length area) x)) e
 
   -- the trees that meet the criterion, in order
   pub match-alone : (c : Criterion) → OkQ (match c ∷ []) → alone (match c) ≡ outcomeIn area (final (length area) (going (filter (holds c) ts)))

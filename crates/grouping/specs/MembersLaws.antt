@@ -25,7 +25,7 @@ use Rattle.values.specs.ValueLaws.{value-absent, value-keep, value-end, value-n
 use Rattle.values.specs.Write.{WalkReady}
 use Rattle.grouping.specs.Members.{MembersReady, WroteMember, MembersFrom, WroteMembers}
 use Rattle.grouping.specs.ClassesLaws.{alike-self}
-use Rattle.grouping.specs.FirstLaws.{array-parts, array-none, array-before, array-first, array-rest}
+use Rattle.query.specs.TreesLaws.{array-parts, array-none, array-before, array-first, array-rest}
 
 -- ---- one tree
 module _ {w q : List ℕ} {g ge p e x xe a b d stop : ℕ} where

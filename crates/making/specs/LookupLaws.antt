@@ -20,7 +20,7 @@ use Rattle.format.specs.AreaLaws.{is-part, is-keep, wrote-none, wrote-fail, wro
 use Rattle.query.specs.Query.{Path}
 use Rattle.query.specs.Rules.{OkP⁺}
 use Rattle.query.specs.Places.{arrayTrees}
-use Rattle.query.specs.PartLaws.{first-parts, no-part}
+use Rattle.query.specs.TreesLaws.{array-parts, array-none}
 use Rattle.query.specs.Steps.{stepCount}
 use Rattle.query.specs.StepLaws.{steps-are}
 use Rattle.stages.specs.KeepLaws.{partners-ok}
@@ -38,28 +38,6 @@ use Rattle.making.specs.Lookup.{LookupReady, Looks, Matching, CopiesMatc
 use Rattle.making.specs.MadeLaws.{target-along, target-heads, made-one, part-adding}
 
 -- ---- the joined trees, one behind another
-
--- the first, which ends at m, and those behind it
-record JoinedParts (j : List ℕ) (p m e : ℕ) (ts : List Tree) : Type 0 where
-  pub first : Tree
-  pub rest : List Tree
-  pub same : ts ≡ first ∷ rest
-  pub first-is : Is j p m (treeBytes first)
-  pub rest-is : Is j m e (arrayTrees rest)
-  pub after : p + 3 ≤ m
-  pub within : m ≤ e
-
-joined-parts : {j : List ℕ} {p m e : ℕ} (ts : List Tree) → m ≡ fieldEnd j p → (p ≡ e → ⊥) → Is j p e (arrayTrees ts) → JoinedParts j p m e ts
-unfolding bytes treeFs treeBytes
-joined-parts [] g n h = absurd (n (omega (arith, h .ends)))
-joined-parts (t ∷ ts) g n h =
-    let a = first-parts (treeF t) (treeFs (trees ts)) g h in
-    record { first = t; rest = ts; same = refl; first-is = a .first-is; rest-is = a .rest-is; after = a .after; within = a .within }
-
-joined-none : {j : List ℕ} {p e : ℕ} (ts : List Tree) → p ≡ e → Is j p e (arrayTrees ts) → ts ≡ []
-unfolding treeFs
-joined-none [] z h = refl
-joined-none (t ∷ ts) z h = absurd (no-part (treeF t) (treeFs (trees ts)) z h)
 
 -- those that match: of the first, and of the rest
 partners-first : (own other : Path) (y : Tree) (ys : List Tree) (t : Tree)
@@ -101,17 +79,17 @@ module _ {w q : List ℕ} {f t g u a b : ℕ} {j : List ℕ} {x xe d stop : ℕ}
 module _ {w q : List ℕ} {f t g u a b : ℕ} {j : List ℕ} {x xe d stop : ℕ} where
   pub partners-done : x ≡ xe → d ≤ stop → CopiesPartners w w q f t g u a b j x xe d stop (At d)
   partners-done z l own other tree ys ho hr ot ht oy hy =
-      subst (λ n. Wrote w w d stop (arrayTrees (partners own other n tree)) (At d)) (sym (joined-none ys z hy))
+      subst (λ n. Wrote w w d stop (arrayTrees (partners own other n tree)) (At d)) (sym (array-none ys z hy))
       (subst (λ n. Wrote w w d stop n (At d)) (sym (partners-none own other tree)) (wrote-none w d stop l))
 
   module _ {m : ℕ} (n : x ≡ xe → ⊥) (z : m ≡ fieldEnd j x) where
     module _ (h : Matching AllowedA arrayTrees w q f t g u a b j x xe d stop) where
       pub partners-places : (x + 3 ≤ m) × (m ≤ xe) × (xe ≤ length j)
-      partners-places = let c = joined-parts (h .joined .value) z n (h .joined .value-is) in (c .after, c .within, h .joined .value-is .inside)
+      partners-places = let c = array-parts (h .joined .value) z n (h .joined .value-is) in (omega (arith, c .after), c .within, h .joined .value-is .inside)
 
       pub partners-match : Matching (Allowed depthMax) treeBytes w q f t g u a b j x m d stop
       partners-match =
-          let c = joined-parts (h .joined .value) z n (h .joined .value-is) in
+          let c = array-parts (h .joined .value) z n (h .joined .value-is) in
           record {
             own = h .own;
             other = h .other;
@@ -125,7 +103,7 @@ module _ {w q : List ℕ} {f t g u a b : ℕ} {j : List ℕ} {x xe d stop : ℕ}
       pub partners-rest : {v : List ℕ} {o : Out} {e : ℕ} → CopiesMatch w v q f t g u a b j x m d stop o → o ≡ At e → length v ≡ length w
           → Matching AllowedA arrayTrees v q f t g u a b j m xe e stop
       partners-rest {v} {o} {e} k y l =
-          let c = joined-parts (h .joined .value) z n (h .joined .value-is) in
+          let c = array-parts (h .joined .value) z n (h .joined .value-is) in
           let oj = subst AllowedA (c .same) (h .joined .allowed) in
           let tr = h .tree in
           let i = k (h .own .value) (h .other .value) (tr .value) (c .first) (h .own .value-is) (h .other .value-is) (tr .allowed) (tr .value-is) (oj .0) (c .first-is) in
@@ -143,7 +121,7 @@ module _ {w q : List ℕ} {f t g u a b : ℕ} {j : List ℕ} {x xe d stop : ℕ}
     module _ {v : List ℕ} {o : Out} (k : CopiesMatch w v q f t g u a b j x m d stop o) where
       pub partners-stop : o ≡ TooLarge → CopiesPartners w v q f t g u a b j x xe d stop TooLarge
       partners-stop y own other tree ys ho hr ot ht oy hy =
-          let c = joined-parts ys z n hy in
+          let c = array-parts ys z n hy in
           let oj = subst AllowedA (c .same) oy in
           let i = k own other tree (c .first) ho hr ot ht (oj .0) (c .first-is) in
           subst (λ l. Wrote w v d stop (arrayTrees (partners own other l tree)) TooLarge) (sym (c .same))
@@ -153,7 +131,7 @@ module _ {w q : List ℕ} {f t g u a b : ℕ} {j : List ℕ} {x xe d stop : ℕ}
       pub partners-next : {e : ℕ} → b ≤ d → d ≤ length w → o ≡ At e → (v2 : List ℕ) (r : Out)
           → CopiesPartners v v2 q f t g u a b j m xe e stop r → CopiesPartners w v2 q f t g u a b j x xe d stop r
       partners-next {e} l l2 y v2 r k2 own other tree ys ho hr ot ht oy hy =
-          let c = joined-parts ys z n hy in
+          let c = array-parts ys z n hy in
           let oj = subst AllowedA (c .same) oy in
           let i = k own other tree (c .first) ho hr ot ht (oj .0) (c .first-is) in
           subst (λ l. Wrote w v2 d stop (arrayTrees (partners own other l tree)) r) (sym (c .same))

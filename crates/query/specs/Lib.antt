@@ -18,5 +18,6 @@ pub mod TableLaws
 pub mod CheckLaws
 pub mod StepLaws
 pub mod PartLaws
+pub mod TreesLaws
 pub mod PlaceLaws
 pub mod Examples

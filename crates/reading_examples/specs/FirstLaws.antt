@@ -18,7 +18,6 @@ use Rattle.format.specs.Within.{AllBytes, Allowed, Within}
 use Rattle.format.specs.Area.{Is, fieldEnd}
 use Rattle.format.specs.AreaLaws.{is-content}
 use Rattle.format.specs.Stand.{treesBytes, Holds}
-use Rattle.format.specs.StandLaws.{trees-parts, trees-none}
 use Rattle.format.specs.Check.{arrayCheck}
 use Rattle.format.specs.CheckLaws.{accepted-trees}
 use Rattle.query.specs.Query.{Stage, match, unwind, project, group, lookup}
@@ -29,6 +28,7 @@ use Rattle.query.specs.Check.{queryCheck}
 use Rattle.query.specs.CheckLaws.{accepted-stages}
 use Rattle.query.specs.Places.{HoldsOk, stageBytes, stagesBytes, ReadsStage}
 use Rattle.query.specs.PartLaws.{list-parts, list-none}
+use Rattle.query.specs.TreesLaws.{array-parts, array-none, array-reads}
 use Rattle.query.specs.PlaceLaws.{query-reads}
 use Rattle.query.specs.declared.stage.StageAt.{StageAt}
 use Rattle.stages.specs.Criteria.{holds}
@@ -37,21 +37,6 @@ use Rattle.reading.specs.MeetsLaws.{match-evaluable, match-meets}
 use Rattle.reading_examples.specs.declared.first.Verdict.{Verdict}
 use Rattle.reading_examples.specs.declared.first.Verdict.the-variants.{Met, Unmet, Other}
 use Rattle.reading_examples.specs.First.{firstOf, verdict, Admitted, FirstIs}
-
--- ---- the trees of an array
-array-reads : (s : List ℕ) (ts : List Tree) → s ≡ arrayBytes ts → Is s 3 (length s) (treesBytes (trees ts))
-unfolding arrayBytes arrayF
-array-reads s ts z =
-    let all : Is s 0 (length s) s = record { lies = take-all (length s) s (omega arith); ends = omega arith; inside = omega arith } in
-    is-content (1, bytes (treeFs (trees ts))) (subst (Is s 0 (length s)) z all)
-
-no-trees : (ts : List Tree) → trees ts ≡ ε → ts ≡ []
-no-trees [] e = refl
-no-trees (t ∷ ts) e = let z : _≡_ {A = ℕ} 0 1 = cc in absurd (omega arith)
-
-first-tree : (ts : List Tree) (u : Tree) (us : Trees) → trees ts ≡ u ▹ us → (rest : List Tree) × (ts ≡ u ∷ rest)
-first-tree [] u us e = let z : _≡_ {A = ℕ} 0 1 = cc in absurd (omega arith)
-first-tree (t ∷ ts) u us e = let q : t ≡ u = cc in (ts, ap (λ x. x ∷ ts) q)
 
 -- ---- no stage, or no tree
 other : (ss : List Stage) → firstOf ss [] ≡ Other
@@ -71,7 +56,7 @@ no-stage q s e ss o z ts w y =
 
 pub no-tree : (q s : List ℕ) → length s ≡ 3 → FirstIs q s Other
 no-tree q s e ss o z ts w y =
-    let n : ts ≡ [] = no-trees ts (trees-none (trees ts) (sym e) (array-reads s ts y)) in
+    let n : ts ≡ [] = array-none ts (sym e) (array-reads s ts y) in
     sym (ap (firstOf ss) n ∙ other ss)
 
 -- ---- a first stage and a first tree
@@ -86,7 +71,7 @@ module _ (q s : List ℕ) (h : Admitted q s) (n : length q ≡ 3 → ⊥) (k : l
   stage-end = list-parts stageF (h .stages) refl some-stage (query-reads q (h .stages) (h .query)) .within
 
   pub tree-end : fieldEnd s 3 ≤ length s
-  tree-end = trees-parts (trees (h .trees)) refl some-tree (array-reads s (h .trees) (h .array)) .within
+  tree-end = array-parts (h .trees) refl some-tree (array-reads s (h .trees) (h .array)) .within
 
   module _ (m t : ℕ) (em : m ≡ fieldEnd q 3) (et : t ≡ fieldEnd s 3) where
     first-stage : HoldsOk OkS stageBytes q 3 m
@@ -99,9 +84,8 @@ module _ (q s : List ℕ) (h : Admitted q s) (n : length q ≡ 3 → ⊥) (k : l
 
     one-tree : HoldsOk (Allowed depthMax) treeBytes s 3 t
     one-tree =
-        let p = trees-parts (trees (h .trees)) et some-tree (array-reads s (h .trees) (h .array)) in
-        let f = first-tree (h .trees) (p .first) (p .rest) (p .same) in
-        record { value = p .first; allowed = subst (All (Allowed depthMax)) (f .1) (h .within .allowed) .0; value-is = p .first-is }
+        let p = array-parts (h .trees) et some-tree (array-reads s (h .trees) (h .array)) in
+        record { value = p .first; allowed = subst (All (Allowed depthMax)) (p .same) (h .within .allowed) .0; value-is = p .first-is }
 
     module _ (r : StageAt) (reads : ReadsStage q 3 m r) where
       pub first-evaluable : (c ce : ℕ) → r ≡ StageAt.Match c ce → Evaluable q c ce s 3 t nestMax
@@ -112,12 +96,11 @@ module _ (q s : List ℕ) (h : Admitted q s) (n : length q ≡ 3 → ⊥) (k : l
       chosen o c ce z g ss ok y ts w a =
           let p = list-parts stageF ss em some-stage (query-reads q ss y) in
           let i = reads (p .first) (p .first-is) .match-is c ce z in
-          let u = trees-parts (trees ts) et some-tree (array-reads s ts a) in
-          let f = first-tree ts (u .first) (u .rest) (u .same) in
+          let u = array-parts ts et some-tree (array-reads s ts a) in
           let x : ss ≡ match (i .part) ∷ p .rest = p .same ∙ ap (λ e. e ∷ p .rest) (i .same) in
           let e : o ≡ holds (i .part) (u .first) =
-          match-meets reads z g (i .part) (u .first) (subst (All OkS) x (ok .stages) .0) (subst (λ e. Is q 3 m (stageBytes e)) (i .same) (p .first-is)) (subst (All (Allowed depthMax)) (f .1) (w .allowed) .0) (u .first-is) in
-          rw (x, f .1) (ap (λ b. cond b Met Unmet) e)
+          match-meets reads z g (i .part) (u .first) (subst (All OkS) x (ok .stages) .0) (subst (λ e. Is q 3 m (stageBytes e)) (i .same) (p .first-is)) (subst (All (Allowed depthMax)) (u .same) (w .allowed) .0) (u .first-is) in
+          rw (x, u .same) (ap (λ b. cond b Met Unmet) e)
 
       pub first-met : (o : Bool) (c ce : ℕ) → r ≡ StageAt.Match c ce → Meets q c ce s 3 t nestMax o → o ≡ true → FirstIs q s Met
       first-met o c ce z g e = subst (λ b. FirstIs q s (cond b Met Unmet)) e (chosen o c ce z g)

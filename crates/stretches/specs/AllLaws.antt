@@ -16,6 +16,7 @@ use Rattle.format.specs.AreaLaws.{is-content}
 use Rattle.query.specs.Query.{Stage}
 use Rattle.query.specs.Bytes.{queryBytes}
 use Rattle.query.specs.Rules.{OkS, OkQ}
+use Rattle.query.specs.TreesLaws.{array-reads}
 use Rattle.query.specs.Places.{arrayTrees, stagesBytes, ReadsQuery}
 use Rattle.query.specs.declared.stage.Span.{Span}
 use Rattle.stages.specs.Stages.{State, going, large, long, stages}
@@ -29,13 +30,6 @@ use Rattle.stretches.specs.Ended.{Ends, Admitted, Runs}
 use Rattle.stretches.specs.Stretch.{FirstReady, FirstPost}
 use Rattle.stretches.specs.Later.{Allows, LaterReady, LaterPost}
 use Rattle.stretches.specs.LaterLaws.{before-short}
-
--- the trees of an array stand behind its head
-array-reads : (s : List ℕ) (ts : List Tree) → s ≡ arrayBytes ts → Is s 3 (length s) (arrayTrees ts)
-unfolding arrayBytes arrayF
-array-reads s ts z =
-    let all : Is s 0 (length s) s = record { lies = take-all (length s) s (omega arith); ends = omega arith; inside = omega arith } in
-    is-content (1, bytes (treeFs (trees ts))) (subst (Is s 0 (length s)) z all)
 
 module _ {q : List ℕ} {x : Span} (reads : ReadsQuery q x) where
   plan : {j : List ℕ} (ss : List Stage) (us : List Tree) → q ≡ queryBytes ss → OkQ ss → j ≡ arrayBytes us → Within us → Planned q (x .from) (x .to) j ss us

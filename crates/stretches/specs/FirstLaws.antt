@@ -25,7 +25,7 @@ use Rattle.stream.specs.Sink.{isLarge, ends, Collects, Open, Feeds}
 use Rattle.stream.specs.SinkLaws.{feeds-move, feeds-more, feeds-stop, feeds-none, feeds-open}
 use Rattle.stream.specs.TailLaws.{ends-beyond}
 use Rattle.stream.specs.Feed.{Planned, Front, FeedReady, FeedPost}
-use Rattle.grouping.specs.FirstLaws.{array-parts, array-none}
+use Rattle.query.specs.TreesLaws.{array-parts, array-none}
 use Rattle.stretches.specs.Stretch.{Shows, FirstReady, FirstPost}
 
 -- ---- from nothing

@@ -41,7 +41,7 @@ use Rattle.making.specs.Made.{Made}
 use Rattle.grouping.specs.Classes.{begins, scan, BeginsReady, BeginsIs}
 use Rattle.grouping.specs.ClassesLaws.{grouped-scan}
 use Rattle.grouping.specs.Class.{ClassReady, MakesClass}
-use Rattle.grouping.specs.FirstLaws.{ArrayParts, array-parts, array-none}
+use Rattle.query.specs.TreesLaws.{ArrayParts, array-parts, array-none}
 use Rattle.stream.specs.declared.sink.Sink.{Sink}
 use Rattle.stream.specs.declared.sink.Sink.the-variants.{Len, Over, Large}
 use Rattle.stream.specs.Stretch.{before}

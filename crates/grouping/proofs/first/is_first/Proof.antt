@@ -7,14 +7,8 @@ use Rattle.query.specs.Places.{arrayTrees, HoldsOk}
 use Rattle.query.specs.PartLaws.{holds-of}
 use Rattle.format.specs.Within.{AllowedA}
 use Rattle.grouping.specs.Classes.{UnlikeIs}
-use Rattle.grouping.specs.FirstLaws.{
-  array-places,
-  array-first,
-  array-rest,
-  unlike-none,
-  unlike-found,
-  unlike-next,
-}
+use Rattle.query.specs.TreesLaws.{array-places, array-first, array-rest}
+use Rattle.grouping.specs.FirstLaws.{unlike-none, unlike-found, unlike-next}
 use Rattle.grouping.proofs.first.is_first.Statement.{statement}
 use Rattle.grouping.proofs.first.is_first.Tie as tie
 use Rattle.grouping.proofs.first.is_first.Reads as reads

@@ -9,7 +9,7 @@ use Rattle.format.specs.Within.{AllowedA}
 use Rattle.query.specs.Places.{arrayTrees}
 use Rattle.values.specs.declared.value.Value.{Value}
 use Rattle.grouping.specs.Members.{MembersReady, MembersFrom, WroteMembers}
-use Rattle.grouping.specs.FirstLaws.{array-places}
+use Rattle.query.specs.TreesLaws.{array-places}
 use Rattle.grouping.specs.MembersLaws.{
   members-done,
   members-first,
