@@ -1,0 +1,129 @@
+/*
+ * tquery.h: Tumkwasa's query engine, from C and C++.
+ *
+ * The idea
+ * --------
+ * A machine lends the engine five areas of bytes: a query, an input, a
+ * joined array, a work area and a result area. The engine runs the query,
+ * none to eight stages, over the input and leaves the result in the result
+ * area, or refuses by a number. It takes no heap, keeps no state between
+ * calls, starts no thread and calls no library. Calls with different areas
+ * may run at the same time.
+ *
+ * Every area is the caller's, before, during and after a call. An area is a
+ * pointer and a length. A length may be anything from 0 up; a pointer is
+ * never null, also where the length is 0. The work area and the result area
+ * overlap no other area. Any bytes may stand in any of them: no content
+ * makes a call do anything but answer.
+ *
+ * The query, the input and the joined array are only read. What the work
+ * area and the result area hold after a call is fixed by the arguments
+ * alone, and stands in the table below. That is proved of the library's
+ * code, for all bytes and all lengths; docs/CERTIFICATE.md says how.
+ *
+ * Byte forms
+ * ----------
+ * The input, the joined array and the result are arrays: one field each,
+ * tag 1. The query is one field, tag 16. A field is a tag byte, a length of
+ * two bytes, high byte first, and that many bytes of content. An array that
+ * is not needed is 01 00 00, the empty one.
+ *
+ * Answers
+ * -------
+ * An answer is one number, 64 bits: the number of the table times 2 to the
+ * power 32, plus the length of the result. The length is 0 unless the number
+ * is 0. TQUERY_NUMBER and TQUERY_LENGTH take it apart.
+ *
+ *  number  cause, tested in this order                   result     work
+ *  ------  --------------------------------------------  ---------  --------
+ *   0      none: accepted                                see below  zero
+ *   1      work area under 65,536 bytes                  as it was  as it was
+ *   2      query over 4,096 bytes                        as it was  zero
+ *   3      query malformed                               as it was  zero
+ *   4      input over 16,384 bytes                       as it was  zero
+ *   5      input malformed, or a tree in it too large    as it was  zero
+ *   6      joined array over 16,384 bytes                as it was  zero
+ *   7      joined array malformed, or a tree too large   as it was  zero
+ *   8      a tree was too large in a stretch             zero       zero
+ *   9      an array entering a group over 16,384 bytes   zero       zero
+ *  10      the last array over 16,384 bytes, or over     zero       zero
+ *          the result area
+ *
+ * After 0 the result stands at the start of the result area, and the bytes
+ * beyond its length are as they were. "Zero" is the whole area, of whatever
+ * length.
+ */
+
+#ifndef TQUERY_H
+#define TQUERY_H
+
+#include <stddef.h>
+#include <stdint.h>
+
+#ifdef __cplusplus
+extern "C" {
+#endif
+
+/* Limits, in bytes. */
+#define TQUERY_WORK_MIN 65536   /* the least work area */
+#define TQUERY_QUERY_MAX 4096   /* the largest query */
+#define TQUERY_ARRAY_MAX 16384  /* the largest input, joined array and result */
+#define TQUERY_TREE_MAX 2048    /* the largest tree */
+
+/* The numbers of the table. */
+#define TQUERY_ACCEPTED 0
+#define TQUERY_WORK_SHORT 1
+#define TQUERY_QUERY_LONG 2
+#define TQUERY_QUERY_MALFORMED 3
+#define TQUERY_INPUT_LONG 4
+#define TQUERY_INPUT_MALFORMED 5
+#define TQUERY_JOINED_LONG 6
+#define TQUERY_JOINED_MALFORMED 7
+#define TQUERY_TREE_LARGE 8
+#define TQUERY_GROUP_LONG 9
+#define TQUERY_RESULT_LONG 10
+
+/* An answer's number, and the length of its result. */
+#define TQUERY_NUMBER(answer) ((unsigned)((answer) >> 32))
+#define TQUERY_LENGTH(answer) ((size_t)((answer) & 0xFFFFFFFFu))
+
+/*
+ * Runs a query.
+ *
+ * query, input, joined: lent to be read; never changed.
+ * work: 65,536 bytes or more, of any content; zero afterwards, over its whole
+ *       length, unless the number is 1, and then it is as it was.
+ * result: of any length; what it holds afterwards is said in the table.
+ *         16,384 bytes hold every result.
+ *
+ * Returns the answer.
+ */
+uint64_t tquery_run(const uint8_t *query, size_t query_length,
+                    const uint8_t *input, size_t input_length,
+                    const uint8_t *joined, size_t joined_length,
+                    uint8_t *work, size_t work_length,
+                    uint8_t *result, size_t result_length);
+
+/*
+ * Checks an array, by the tests that tquery_run makes of its input.
+ *
+ * bytes: lent to be read; never changed.
+ *
+ * Returns the answer: number 0, 4 or 5, length 0.
+ */
+uint64_t tquery_check_array(const uint8_t *bytes, size_t length);
+
+/*
+ * Checks a query, by the tests that tquery_run makes of it.
+ *
+ * bytes: lent to be read; never changed.
+ *
+ * Returns the answer: number 0, 2 or 3, length 0.
+ */
+uint64_t tquery_check_query(const uint8_t *bytes, size_t length);
+
+#ifdef __cplusplus
+}
+#endif
+
+#endif
