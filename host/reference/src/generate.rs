@@ -1,0 +1,671 @@
+//! Random cases from a seed.
+//!
+//! Random bytes alone would be refused as malformed for ever, and random
+//! queries alone would seldom come near a limit. So cases are of kinds, each
+//! drawn for something that a run can get wrong; [`KINDS`] says how often.
+//! Most cases are accepted, since an answer with bytes says most.
+
+mod damage;
+mod draw;
+mod random;
+
+use crate::bytes::{
+    encode_array, encode_query, AGGREGATES_LIMIT, GROUPING_LIMIT, ITEMS_LIMIT, LIST_LIMIT, NESTING_LIMIT,
+    QUERY_LIMIT, STAGES_LIMIT,
+};
+use crate::run::{decide, Verdict, WORK_LEAST};
+use crate::stages::{Criterion, Data, Item, Pair, Stage};
+use crate::tree::{array_size, Tree, ARRAY_LIMIT, DEPTH_LIMIT, HEAD, TEXT_LIMIT, TREE_LIMIT};
+pub use random::Random;
+
+/// The longest query, input, joined array and result area of a case.
+pub const LONGEST: usize = 20_000;
+
+/// The longest work area of a case.
+pub const LONGEST_WORK: usize = 70_000;
+
+/// A case is left out if a list passes this number of trees on its way.
+const MOST_TREES: usize = 5_000;
+
+/// What a run is given; of the work and result areas their lengths.
+#[derive(Clone, Debug, PartialEq, Eq)]
+pub struct Case {
+    pub query: Vec<u8>,
+    pub input: Vec<u8>,
+    pub joined: Vec<u8>,
+    pub work_length: usize,
+    pub result_length: usize,
+}
+
+impl Case {
+    /// What the plain run answers, if its lists stay short.
+    fn verdict(&self) -> Option<Verdict> {
+        decide(&self.query, &self.input, &self.joined, self.work_length, self.result_length, MOST_TREES)
+    }
+
+    fn within_longest(&self) -> bool {
+        [&self.query, &self.input, &self.joined].iter().all(|bytes| bytes.len() <= LONGEST)
+    }
+}
+
+/// A case before it has a byte form.
+struct Draft {
+    stages: Vec<Stage>,
+    input: Vec<Tree>,
+    joined: Vec<Tree>,
+}
+
+impl Draft {
+    /// The case, in areas that are long enough, if there is a byte form.
+    fn case(&self) -> Option<Case> {
+        if array_size(&self.input) > LONGEST || array_size(&self.joined) > LONGEST {
+            return None;
+        }
+        let query = encode_query(&self.stages)?;
+        let (input, joined) = (encode_array(&self.input)?, encode_array(&self.joined)?);
+        let case = Case { query, input, joined, work_length: WORK_LEAST, result_length: ARRAY_LIMIT };
+        case.within_longest().then_some(case)
+    }
+}
+
+/// Cases without end, with what the reference answers to them.
+pub struct Cases {
+    random: Random,
+}
+
+impl Cases {
+    pub fn new(seed: u64) -> Cases {
+        Cases { random: Random::new(seed) }
+    }
+}
+
+impl Iterator for Cases {
+    type Item = (Case, Verdict);
+
+    fn next(&mut self) -> Option<(Case, Verdict)> {
+        loop {
+            let drawn = draw_case(&mut self.random).and_then(|case| in_areas(&mut self.random, case));
+            if drawn.is_some() {
+                return drawn;
+            }
+        }
+    }
+}
+
+type Kind = fn(&mut Random) -> Option<Case>;
+
+/// The kinds of cases, and how often each is drawn, in thousand.
+const KINDS: [(usize, Kind); 18] = [
+    (300, |random| ordinary(random).case()),
+    (90, |random| groups(random).case()),
+    (70, |random| lookups(random).case()),
+    (50, |random| long_paths(random).case()),
+    (40, |random| nestings(random).case()),
+    (30, |random| counts(random).case()),
+    (40, |random| array_limits(random).case()),
+    (40, |random| tree_limits(random).case()),
+    (35, |random| query_limits(random)),
+    (65, |random| tree_growth(random).case()),
+    (25, |random| depth_growth(random).case()),
+    (30, |random| list_growth(random).case()),
+    (35, |random| products(random).case()),
+    (45, |random| blind_damage(random)),
+    (55, |random| field_damage(random)),
+    (15, |random| random_bytes(random)),
+    (20, |random| several_faults(random)),
+    (20, |random| short_work(random)),
+];
+
+fn draw_case(random: &mut Random) -> Option<Case> {
+    let mut left = random.below(KINDS.iter().map(|(weight, _)| weight).sum());
+    for (weight, kind) in KINDS {
+        if left < weight {
+            return kind(random).filter(Case::within_longest);
+        }
+        left -= weight;
+    }
+    unreachable!("a number is below the sum of the weights")
+}
+
+/// Gives a case its areas. Some result areas are measured by the result: just
+/// long enough, or one byte too short.
+fn in_areas(random: &mut Random, mut case: Case) -> Option<(Case, Verdict)> {
+    if case.work_length >= WORK_LEAST && random.chance(30) {
+        case.work_length = random.between(WORK_LEAST, LONGEST_WORK);
+    }
+    if random.chance(12) {
+        case.result_length =
+            random.pick(&[0, 1, 2, 3, 20, 100, 300, ARRAY_LIMIT - 1, ARRAY_LIMIT + 1, LONGEST]);
+    }
+    let verdict = case.verdict()?;
+    let length = verdict.bytes().len();
+    if length == 0 || !random.chance(12) {
+        return Some((case, verdict));
+    }
+    case.result_length = random.pick(&[length, length, length + 1, length - 1]);
+    let verdict = case.verdict()?;
+    Some((case, verdict))
+}
+
+// Kinds of cases that are mostly accepted
+
+/// Any stages over any trees.
+fn ordinary(random: &mut Random) -> Draft {
+    let input = some_trees(random);
+    let joined = related(random, &input);
+    let number = random.pick(&[0, 1, 1, 1, 1, 2, 2, 2, 3, 3, 4, 6, STAGES_LIMIT]);
+    Draft { stages: draw::stages(random, &input, number), input, joined }
+}
+
+fn some_trees(random: &mut Random) -> Vec<Tree> {
+    let number = random.pick(&[0, 1, 1, 2, 2, 3, 3, 4, 6, 10]);
+    let levels = random.pick(&[1, 1, 2, 2, 3]);
+    draw::trees(random, number, levels)
+}
+
+/// Trees of which some share values with the given ones, so that a lookup has
+/// something to find.
+fn related(random: &mut Random, input: &[Tree]) -> Vec<Tree> {
+    let one = |random: &mut Random| {
+        if input.is_empty() || random.chance(40) {
+            return draw::tree(random, 1);
+        }
+        let mut tree = random.pick(input);
+        if random.chance(50) {
+            tree.root = draw::root(random);
+        }
+        tree
+    };
+    (0..random.pick(&[0, 0, 1, 2, 3, 5])).map(|_| one(random)).collect()
+}
+
+/// Up to four grouping pairs over trees that have any subset of their sources,
+/// with few values, the empty array among them.
+fn groups(random: &mut Random) -> Draft {
+    let input: Vec<Tree> = (0..random.between(1, 24)).map(|_| record(random, 4)).collect();
+    let number = random.between(0, GROUPING_LIMIT);
+    let grouping = (1..=number as u8).map(|label| Pair {
+        source: source(random, label),
+        destination: random.pick(&[vec![label], vec![5], vec![1, 2]]),
+    });
+    let grouping = grouping.collect();
+    let number = random.pick(&[0, 1, 1, 2, 3]);
+    let aggregates = draw::pairs(random, &input, number);
+    let mut stages = vec![Stage::Group { aggregates, grouping }];
+    around(random, &mut stages, &input);
+    Draft { stages, joined: related(random, &input), input }
+}
+
+/// A tree with each of some labels or without it.
+fn record(random: &mut Random, labels: u8) -> Tree {
+    let mut tree = Tree::bare(draw::root(random));
+    for label in 1..=labels {
+        if random.chance(60) {
+            tree.labels.insert(label, value(random));
+        }
+    }
+    tree
+}
+
+fn value(random: &mut Random) -> Vec<Tree> {
+    let (one, two) = (Tree::integer(1), Tree::text(b"a"));
+    match random.below(6) {
+        0 => vec![],
+        1 => vec![two],
+        2 => vec![one, two],
+        3 => vec![Tree::void().with(1, random.pick(&[vec![], vec![one]]))],
+        _ => vec![one],
+    }
+}
+
+/// A source that is the label, or below it.
+fn source(random: &mut Random, label: u8) -> Vec<u8> {
+    if random.chance(15) {
+        vec![label, 1]
+    } else {
+        vec![label]
+    }
+}
+
+/// Seldom a stage before the stages, or some behind them.
+fn around(random: &mut Random, stages: &mut Vec<Stage>, trees: &[Tree]) {
+    if random.chance(20) {
+        stages.insert(0, Stage::Match(draw::criterion(random, trees, 2)));
+    }
+    if random.chance(30) {
+        let number = random.between(1, 2);
+        stages.extend(draw::stages(random, trees, number));
+    }
+}
+
+/// Lookups that find one, several or no trees, by values or by absence.
+fn lookups(random: &mut Random) -> Draft {
+    let input: Vec<Tree> = (0..random.between(1, 8)).map(|_| record(random, 2)).collect();
+    let joined: Vec<Tree> = (0..random.between(0, 8)).map(|_| record(random, 2)).collect();
+    let p = random.pick(&[vec![3], vec![1], vec![2, 1], vec![3, 4, 5]]);
+    let (q, r) = (random.between(1, 3) as u8, random.between(1, 3) as u8);
+    let mut stages = vec![Stage::Lookup { q: source(random, q), r: source(random, r), p }];
+    around(random, &mut stages, &input);
+    Draft { stages, input, joined }
+}
+
+/// Paths of up to eight labels over trees as deep.
+fn long_paths(random: &mut Random) -> Draft {
+    let number = random.between(1, 3);
+    let trees = |random: &mut Random| -> Vec<Tree> {
+        (0..number)
+            .map(|_| {
+                let depth = random.between(6, 12);
+                draw::deep(random, depth)
+            })
+            .collect()
+    };
+    let (input, joined) = (trees(random), trees(random));
+    let number = random.pick(&[1, 1, 2, 3]);
+    Draft { stages: draw::stages(random, &input, number), input, joined }
+}
+
+// Kinds of cases at the limits of the form
+
+/// A limit, or one past it.
+fn around_limit(random: &mut Random, limit: usize) -> usize {
+    random.pick(&[limit, limit, limit, limit + 1])
+}
+
+/// Criteria and data nested to the limit and one past it.
+fn nestings(random: &mut Random) -> Draft {
+    let mut draft = ordinary(random);
+    draft.stages.truncate(3);
+    let levels = around_limit(random, NESTING_LIMIT);
+    let stage = if random.chance(50) {
+        Stage::Match(draw::nested_criterion(random, &draft.input, levels))
+    } else {
+        let data = draw::nested_data(random, &draft.input, levels);
+        Stage::Project(vec![Item::Place(data, draw::destination(random, &draft.input))])
+    };
+    draft.stages.insert(random.below(draft.stages.len() + 1), stage);
+    draft
+}
+
+/// As many parts as are allowed, or one more, or none.
+fn counts(random: &mut Random) -> Draft {
+    let mut draft = ordinary(random);
+    draft.input.truncate(3);
+    let trees = draft.input.clone();
+    let count = |random: &mut Random, limit| if random.chance(10) { 0 } else { around_limit(random, limit) };
+    draft.stages = match random.below(4) {
+        0 => vec![Stage::Match(draw::criterion(random, &trees, 2)); count(random, STAGES_LIMIT)],
+        1 => vec![Stage::Project(
+            (0..count(random, ITEMS_LIMIT)).map(|_| draw::item(random, &trees)).collect(),
+        )],
+        2 => {
+            let members = (0..count(random, LIST_LIMIT)).map(|_| draw::data(random, &trees, 1)).collect();
+            vec![Stage::Project(vec![Item::Place(Data::List(members), vec![1])])]
+        }
+        _ => {
+            let (aggregates, grouping) = (count(random, AGGREGATES_LIMIT), count(random, GROUPING_LIMIT));
+            let aggregates = draw::pairs(random, &trees, aggregates);
+            vec![Stage::Group { aggregates, grouping: draw::pairs(random, &trees, grouping) }]
+        }
+    };
+    draft
+}
+
+/// An input or joined array at its limit, one past it or far past it.
+fn array_limits(random: &mut Random) -> Draft {
+    let mut draft = ordinary(random);
+    draft.stages = match random.below(4) {
+        0 => draft.stages,
+        1 => vec![],
+        2 => vec![Stage::Match(draw::criterion(random, &draft.input, 2))],
+        _ => vec![Stage::Group {
+            aggregates: vec![],
+            grouping: vec![Pair { source: vec![2], destination: vec![1] }],
+        }],
+    };
+    let size = random.pick(&[
+        ARRAY_LIMIT - 1,
+        ARRAY_LIMIT,
+        ARRAY_LIMIT + 1,
+        ARRAY_LIMIT + 1,
+        ARRAY_LIMIT + 2,
+        LONGEST,
+    ]);
+    if random.chance(50) {
+        let first = draw::trees(random, 8, 2);
+        draft.input = draw::filled(random, first, size);
+    } else {
+        draft.joined = draw::filled(random, draft.joined, size);
+    }
+    draft
+}
+
+/// A tree at a limit or past it: its size, its depth, its text.
+fn tree_limits(random: &mut Random) -> Draft {
+    let mut draft = ordinary(random);
+    draft.stages.truncate(2);
+    let tree = match random.below(4) {
+        0 | 1 => {
+            let size = around_limit(random, TREE_LIMIT);
+            draw::sized(random, size)
+        }
+        2 => {
+            let depth = around_limit(random, DEPTH_LIMIT);
+            draw::deep(random, depth)
+        }
+        _ => Tree::text(&vec![b'a'; around_limit(random, TEXT_LIMIT)]),
+    };
+    match random.below(4) {
+        0 => draft.joined.push(tree),
+        1 => draft.stages.push(Stage::Match(Criterion::Equal(vec![], vec![tree]))),
+        _ => draft.input.insert(random.below(draft.input.len() + 1), tree),
+    }
+    draft
+}
+
+/// A query at its limit, or one or more bytes past it.
+fn query_limits(random: &mut Random) -> Option<Case> {
+    let mut draft = ordinary(random);
+    draft.stages.truncate(STAGES_LIMIT - 1);
+    let at = random.below(draft.stages.len() + 1);
+    let with_literal = |array: Vec<Tree>| {
+        let equal = Box::new(Criterion::Equal(vec![], array));
+        Stage::Match(Criterion::Or(equal, Box::new(Criterion::True)))
+    };
+    draft.stages.insert(at, with_literal(vec![]));
+    let size =
+        random.pick(&[QUERY_LIMIT, QUERY_LIMIT, QUERY_LIMIT + 1, QUERY_LIMIT + 1, QUERY_LIMIT + 2, 6_000]);
+    let missing = size.checked_sub(encode_query(&draft.stages)?.len())?;
+    if missing >= Tree::void().size() {
+        draft.stages[at] = with_literal(draw::filled(random, vec![], HEAD + missing));
+    }
+    draft.case()
+}
+
+// Kinds of cases that grow on the way
+
+/// A size near a limit.
+fn near(random: &mut Random, limit: usize) -> usize {
+    random.pick(&[limit - 1, limit, limit, limit, limit + 1, limit + 1, limit + 2])
+}
+
+/// A path of one to three labels from 2 on, and what a place at it adds to
+/// a tree beside the placed trees.
+fn place_of_known_size(random: &mut Random) -> (Vec<u8>, usize) {
+    let path: Vec<u8> = (0..random.between(1, 3)).map(|_| random.pick(&[2, 3])).collect();
+    let size = crate::stages::placed(Some(vec![]), &path).size() - Tree::void().size();
+    (path, size)
+}
+
+/// Trees that come to the size limit or past it by a stage.
+fn tree_growth(random: &mut Random) -> Draft {
+    let size = near(random, TREE_LIMIT);
+    let (path, more) = place_of_known_size(random);
+    let mut draft = match random.below(6) {
+        0 | 1 => grown_by_project(random, path, size - more),
+        2 => grown_by_lookup(random, path, size - more),
+        3 => grown_by_aggregate(random, path, size - more - Tree::void().size()),
+        4 => grown_by_grouping(random, path, size - more - Tree::void().size()),
+        _ => shrunk_later(random, size),
+    };
+    around(random, &mut draft.stages, &[Tree::void()]);
+    draft
+}
+
+/// A tree, and a text placed beside what it has.
+fn grown_by_project(random: &mut Random, path: Vec<u8>, size: usize) -> Draft {
+    let text = Tree::text(&vec![b'b'; random.between(0, TEXT_LIMIT)]);
+    let tree = draw::sized(random, size - text.size());
+    let place = Item::Place(Data::Literal(vec![text]), path);
+    let stages = vec![Stage::Project(vec![Item::Keep(vec![]), place])];
+    Draft { stages, input: among_small(random, tree), joined: vec![] }
+}
+
+/// A tree somewhere among trees that nothing refuses.
+fn among_small(random: &mut Random, tree: Tree) -> Vec<Tree> {
+    let number = random.below(4);
+    let mut trees = draw::trees(random, number, 1);
+    trees.insert(random.below(number + 1), tree);
+    trees
+}
+
+/// A tree, and all joined trees, by absence.
+fn grown_by_lookup(random: &mut Random, p: Vec<u8>, size: usize) -> Draft {
+    let found = random.between(100, 1_800);
+    let joined = draw::filled(random, vec![], HEAD + found);
+    let tree = draw::sized(random, size - found);
+    Draft { stages: vec![Stage::Lookup { q: vec![9], r: vec![9], p }], input: vec![tree], joined }
+}
+
+/// All trees, aggregated.
+fn grown_by_aggregate(random: &mut Random, destination: Vec<u8>, size: usize) -> Draft {
+    let input = draw::filled(random, vec![], HEAD + size);
+    let aggregates = vec![Pair { source: vec![], destination }];
+    let grouping = random.pick(&[vec![], vec![Pair { source: vec![9], destination: vec![1] }]]);
+    Draft { stages: vec![Stage::Group { aggregates, grouping }], input, joined: vec![] }
+}
+
+/// A tree as a grouping value.
+fn grown_by_grouping(random: &mut Random, destination: Vec<u8>, size: usize) -> Draft {
+    let tree = draw::sized(random, size);
+    let grouping = vec![Pair { source: vec![], destination }];
+    Draft {
+        stages: vec![Stage::Group { aggregates: vec![], grouping }],
+        input: among_small(random, tree),
+        joined: vec![],
+    }
+}
+
+/// A merge that comes near the limit, and a last item that would make it
+/// smaller again: what is tested only at the end misses it.
+fn shrunk_later(random: &mut Random, size: usize) -> Draft {
+    let long = crate::stages::placed(Some(vec![Tree::text(&[b'b'; TEXT_LIMIT])]), &[1]);
+    let beside = crate::stages::placed(Some(vec![]), &[2]).size() - Tree::void().size();
+    let tree = draw::sized(random, size - long.size() - beside);
+    let places = [
+        (Data::Literal(long.labels[&1].clone()), vec![1]),
+        (Data::Path(vec![]), vec![2]),
+        (Data::Literal(vec![Tree::integer(1)]), vec![1]),
+    ];
+    let items = places.map(|(data, path)| Item::Place(data, path)).to_vec();
+    Draft { stages: vec![Stage::Project(items)], input: among_small(random, tree), joined: vec![] }
+}
+
+/// Trees that come to the depth limit or past it by a stage.
+fn depth_growth(random: &mut Random) -> Draft {
+    let labels = random.between(1, 8);
+    let path = vec![random.pick(&[1, 2]); labels];
+    let depth = random.pick(&[DEPTH_LIMIT, DEPTH_LIMIT, DEPTH_LIMIT + 1]);
+    let tree = draw::deep(random, depth - labels);
+    let pair = vec![Pair { source: vec![], destination: path.clone() }];
+    let (stage, joined) = match random.below(4) {
+        0 => (Stage::Group { aggregates: pair, grouping: vec![] }, vec![]),
+        1 => (Stage::Group { aggregates: vec![], grouping: pair }, vec![]),
+        2 => (Stage::Lookup { q: vec![9], r: vec![9], p: path }, vec![tree.clone()]),
+        _ => (Stage::Project(vec![Item::Place(Data::Path(vec![]), path)]), vec![]),
+    };
+    let mut stages = vec![stage];
+    around(random, &mut stages, &[Tree::void()]);
+    Draft { stages, input: among_small(random, tree), joined }
+}
+
+/// A list that comes to the array limit or past it by a project, before a
+/// group, at the end, or where it has no limit.
+fn list_growth(random: &mut Random) -> Draft {
+    let number = random.between(20, 120);
+    let text = Tree::text(&vec![b'b'; random.between(0, 80)]);
+    let (path, more) = place_of_known_size(random);
+    let inputs = near(random, ARRAY_LIMIT) - HEAD - number * (more + text.size());
+    let mut input: Vec<Tree> = (1..number).map(|_| draw::sized(random, inputs / number)).collect();
+    input.push(draw::sized(random, inputs / number + inputs % number));
+    let place = Item::Place(Data::Literal(vec![text]), path);
+    let mut stages = vec![Stage::Project(vec![Item::Keep(vec![]), place])];
+    stages.extend(end_of_growth(random));
+    Draft { stages, input, joined: vec![] }
+}
+
+/// What may follow a list that has grown.
+fn end_of_growth(random: &mut Random) -> Vec<Stage> {
+    let none = Stage::Match(Criterion::Not(Box::new(Criterion::True)));
+    let grouping = vec![Pair { source: vec![random.pick(&[2, 3, 9])], destination: vec![1] }];
+    let group = Stage::Group { aggregates: vec![], grouping };
+    match random.below(6) {
+        0 => vec![],
+        1 => vec![none],
+        2 => vec![none, group],
+        3 => vec![group, none],
+        _ => vec![group],
+    }
+}
+
+/// Products of two unwinds, most of them near the array limit: 511 trees are
+/// within it and 512 are not.
+fn products(random: &mut Random) -> Draft {
+    let any = (random.between(0, 60), random.between(0, 60));
+    let (one, two) = random.pick(&[(7, 73), (73, 7), (8, 64), (16, 32), (23, 22), any, any]);
+    let tree = Tree::void().with(1, vec![Tree::void(); one]).with(2, vec![Tree::void(); two]);
+    let mut stages = vec![Stage::Unwind(vec![1]), Stage::Unwind(vec![2])];
+    stages.extend(end_of_growth(random));
+    if random.chance(20) {
+        let large = Data::Literal(vec![Tree::void(); 339]);
+        stages.insert(random.between(2, stages.len()), Stage::Project(vec![Item::Place(large, vec![1, 1])]));
+    }
+    Draft { stages, input: vec![tree], joined: vec![] }
+}
+
+// Kinds of cases that are mostly refused
+
+/// One area of a case.
+fn any_area<'a>(random: &mut Random, case: &'a mut Case) -> &'a mut Vec<u8> {
+    match random.below(3) {
+        0 => &mut case.query,
+        1 => &mut case.input,
+        _ => &mut case.joined,
+    }
+}
+
+/// An accepted kind of case, as bytes.
+fn sound(random: &mut Random) -> Option<Case> {
+    match random.below(4) {
+        0 => groups(random),
+        1 => lookups(random),
+        _ => ordinary(random),
+    }
+    .case()
+}
+
+fn blind_damage(random: &mut Random) -> Option<Case> {
+    let mut case = sound(random)?;
+    let area = any_area(random, &mut case);
+    *area = damage::blind(random, area);
+    Some(case)
+}
+
+fn field_damage(random: &mut Random) -> Option<Case> {
+    let mut case = sound(random)?;
+    let area = any_area(random, &mut case);
+    *area = damage::fielded(random, area);
+    Some(case)
+}
+
+/// Random bytes in one area, at times behind a right head.
+fn random_bytes(random: &mut Random) -> Option<Case> {
+    let mut case = sound(random)?;
+    let area = any_area(random, &mut case);
+    let tag = area[0];
+    let length = random.pick(&[0, 1, 2, 3, 4, 8, 30, 300]);
+    let content = random.bytes(length);
+    *area = if random.chance(50) { crate::bytes::field(tag, &content)? } else { content };
+    Some(case)
+}
+
+/// Faults in several places at once, for the order of the tests.
+fn several_faults(random: &mut Random) -> Option<Case> {
+    let mut case =
+        if random.chance(50) { list_growth(random).case()? } else { tree_growth(random).case()? };
+    case.query = with_fault(random, case.query, QUERY_LIMIT);
+    case.input = with_fault(random, case.input, ARRAY_LIMIT);
+    case.joined = with_fault(random, case.joined, ARRAY_LIMIT);
+    if random.chance(15) {
+        case.work_length = short_length(random);
+    }
+    case.result_length = random.pick(&[0, 10, ARRAY_LIMIT]);
+    Some(case)
+}
+
+/// Bytes as they are, or damaged, or too long, or both.
+fn with_fault(random: &mut Random, bytes: Vec<u8>, limit: usize) -> Vec<u8> {
+    let mut bytes = if random.chance(25) { damage::blind(random, &bytes) } else { bytes };
+    if random.chance(15) {
+        bytes.resize(limit + random.between(1, 3), 0);
+    }
+    bytes
+}
+
+/// A work area that is too short.
+fn short_work(random: &mut Random) -> Option<Case> {
+    let mut case = if random.chance(50) { sound(random)? } else { field_damage(random)? };
+    case.work_length = short_length(random);
+    Some(case)
+}
+
+fn short_length(random: &mut Random) -> usize {
+    random.pick(&[0, 1, 100, WORK_LEAST / 2, WORK_LEAST - 2, WORK_LEAST - 1, WORK_LEAST - 1])
+}
+
+#[cfg(test)]
+mod tests {
+    use super::*;
+    use crate::bytes::{decode_array, decode_query};
+
+    #[test]
+    fn a_seed_gives_the_same_cases() {
+        let cases = |seed| Cases::new(seed).take(50).collect::<Vec<_>>();
+        assert_eq!(cases(7), cases(7));
+        assert_ne!(cases(7), cases(8));
+    }
+
+    #[test]
+    fn most_are_accepted_and_every_number_appears() {
+        let mut numbers = [0; 11];
+        Cases::new(1).take(4_000).for_each(|(_, verdict)| numbers[usize::from(verdict.number())] += 1);
+        assert!(numbers[0] > 2_000, "{numbers:?}");
+        assert!(numbers.iter().all(|number| *number >= 40), "{numbers:?}");
+    }
+
+    #[test]
+    fn what_is_read_is_written_the_same() {
+        for (case, verdict) in Cases::new(2).take(1_000) {
+            if let Some(stages) = decode_query(&case.query) {
+                assert_eq!(encode_query(&stages).unwrap(), case.query);
+            }
+            for bytes in [&case.input[..], &case.joined[..], verdict.bytes()] {
+                if let Some(trees) = decode_array(bytes) {
+                    assert_eq!(encode_array(&trees).unwrap(), bytes);
+                }
+            }
+        }
+    }
+
+    #[test]
+    fn sized_trees_have_their_size() {
+        let mut random = Random::new(3);
+        for size in 6..3_000 {
+            assert_eq!(draw::sized(&mut random, size).size(), size);
+        }
+        for size in (9..LONGEST).step_by(97) {
+            let first = draw::trees(&mut random, 3, 1);
+            assert_eq!(array_size(&draw::filled(&mut random, first, size)), size);
+        }
+    }
+
+    #[test]
+    fn an_accepted_run_over_its_own_result_is_admitted() {
+        for (case, verdict) in Cases::new(4).take(1_000) {
+            if let Verdict::Accepted(bytes) = verdict {
+                let again = decide(&case.query, &bytes, &case.joined, WORK_LEAST, ARRAY_LIMIT, MOST_TREES);
+                assert!(!matches!(again, Some(Verdict::Refused(1..=7))));
+            }
+        }
+    }
+}

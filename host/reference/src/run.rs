@@ -1,0 +1,313 @@
+//! The plain run: the tests of the table in their order, then the stages over
+//! one whole list.
+
+use crate::bytes::{decode_array, decode_query, encode_array, QUERY_LIMIT};
+use crate::stages::{staged, Stage};
+use crate::tree::{array_size, Tree, ARRAY_LIMIT};
+
+/// The least work area, in bytes.
+pub const WORK_LEAST: usize = 65_536;
+
+/// What the work area holds after a run.
+#[derive(Clone, Copy, Debug, PartialEq, Eq)]
+pub enum Work {
+    Zero,
+    Kept,
+}
+
+/// All that a run leaves behind.
+#[derive(Clone, Debug, PartialEq, Eq)]
+pub struct Outcome {
+    pub number: u8,
+    pub length: usize,
+    /// The whole result area afterwards.
+    pub result: Vec<u8>,
+    pub work: Work,
+}
+
+/// What a run answers, before it is laid into areas: this much follows from
+/// the lengths of the areas alone, and not from what they hold.
+#[derive(Clone, Debug, PartialEq, Eq)]
+pub enum Verdict {
+    Accepted(Vec<u8>),
+    Refused(u8),
+}
+
+impl Verdict {
+    /// The number of the table.
+    pub fn number(&self) -> u8 {
+        match self {
+            Verdict::Accepted(_) => 0,
+            Verdict::Refused(number) => *number,
+        }
+    }
+
+    /// The bytes of the result; none after a refusal.
+    pub fn bytes(&self) -> &[u8] {
+        match self {
+            Verdict::Accepted(bytes) => bytes,
+            Verdict::Refused(_) => &[],
+        }
+    }
+
+    /// The outcome over a result area: 1 to 7 leave it, 8 to 10 clear it, and
+    /// acceptance writes at its start.
+    pub fn over(&self, result_area: &[u8]) -> Outcome {
+        let mut result = result_area.to_vec();
+        match self {
+            Verdict::Accepted(bytes) => result[..bytes.len()].copy_from_slice(bytes),
+            Verdict::Refused(8..) => result.fill(0),
+            Verdict::Refused(_) => {}
+        }
+        let work = if self.number() == 1 { Work::Kept } else { Work::Zero };
+        Outcome { number: self.number(), length: self.bytes().len(), result, work }
+    }
+}
+
+/// Why a run ended without a result.
+#[derive(Clone, Copy, Debug, PartialEq, Eq)]
+enum Stop {
+    Refused(u8),
+    /// The list grew past what the caller will wait for; see [`decide`].
+    TooLong,
+}
+
+/// The plain run.
+pub fn plain_run(
+    query: &[u8],
+    input: &[u8],
+    joined: &[u8],
+    work_length: usize,
+    result_area: &[u8],
+) -> Outcome {
+    let verdict = decide(query, input, joined, work_length, result_area.len(), usize::MAX);
+    verdict.expect("a list has no limit of its own").over(result_area)
+}
+
+/// What the plain run answers, or nothing if a list would pass a number of
+/// trees between two stages.
+///
+/// The document gives such lists no limit, and a few unwinds of one tree can
+/// make millions of trees. Whoever draws random cases gives a limit and leaves
+/// out the case.
+pub fn decide(
+    query: &[u8],
+    input: &[u8],
+    joined: &[u8],
+    work_length: usize,
+    result_length: usize,
+    most_trees: usize,
+) -> Option<Verdict> {
+    let answer = admitted(query, input, joined, work_length)
+        .and_then(|run| after_stages(&run.stages, run.input, &run.joined, most_trees))
+        .and_then(|trees| written(&trees, result_length));
+    match answer {
+        Ok(bytes) => Some(Verdict::Accepted(bytes)),
+        Err(Stop::Refused(number)) => Some(Verdict::Refused(number)),
+        Err(Stop::TooLong) => None,
+    }
+}
+
+/// What the bytes of an admitted run say.
+struct Admitted {
+    stages: Vec<Stage>,
+    input: Vec<Tree>,
+    joined: Vec<Tree>,
+}
+
+/// Tests 1 to 7: what the bytes say, or the first refusal.
+fn admitted(query: &[u8], input: &[u8], joined: &[u8], work_length: usize) -> Result<Admitted, Stop> {
+    refuse(1, work_length < WORK_LEAST)?;
+    refuse(2, query.len() > QUERY_LIMIT)?;
+    let stages = decode_query(query).ok_or(Stop::Refused(3))?;
+    refuse(4, input.len() > ARRAY_LIMIT)?;
+    let input = decode_array(input).ok_or(Stop::Refused(5))?;
+    refuse(6, joined.len() > ARRAY_LIMIT)?;
+    let joined = decode_array(joined).ok_or(Stop::Refused(7))?;
+    Ok(Admitted { stages, input, joined })
+}
+
+fn refuse(number: u8, fault: bool) -> Result<(), Stop> {
+    if fault {
+        Err(Stop::Refused(number))
+    } else {
+        Ok(())
+    }
+}
+
+/// The stages in their order, each over the whole list.
+fn after_stages(
+    stages: &[Stage],
+    input: Vec<Tree>,
+    joined: &[Tree],
+    most_trees: usize,
+) -> Result<Vec<Tree>, Stop> {
+    let mut trees = input;
+    for stage in stages {
+        let groups = matches!(stage, Stage::Group { .. });
+        refuse(9, groups && array_size(&trees) > ARRAY_LIMIT)?;
+        trees = staged(stage, &trees, joined).map_err(|_| Stop::Refused(8))?;
+        if trees.len() > most_trees {
+            return Err(Stop::TooLong);
+        }
+    }
+    Ok(trees)
+}
+
+/// The end of a run: the bytes, if they are within the limit and the area.
+fn written(trees: &[Tree], result_length: usize) -> Result<Vec<u8>, Stop> {
+    let size = array_size(trees);
+    refuse(10, size > ARRAY_LIMIT || size > result_length)?;
+    let bytes = encode_array(trees).expect("an array within the limit has a byte form");
+    assert_eq!(bytes.len(), size, "a size is the length of the byte form");
+    Ok(bytes)
+}
+
+/// What a call that only checks an array answers: 0, 4 or 5.
+pub fn check_array(bytes: &[u8]) -> u8 {
+    if bytes.len() > ARRAY_LIMIT {
+        return 4;
+    }
+    if decode_array(bytes).is_some() {
+        0
+    } else {
+        5
+    }
+}
+
+/// What a call that only checks a query answers: 0, 2 or 3.
+pub fn check_query(bytes: &[u8]) -> u8 {
+    if bytes.len() > QUERY_LIMIT {
+        return 2;
+    }
+    if decode_query(bytes).is_some() {
+        0
+    } else {
+        3
+    }
+}
+
+#[cfg(test)]
+mod tests {
+    use super::*;
+    use crate::bytes::encode_query;
+    use crate::stages::{Criterion, Data, Item};
+
+    const NO_STAGE: [u8; 3] = [16, 0, 0];
+    const EMPTY: [u8; 3] = [1, 0, 0];
+
+    fn array(trees: &[Tree]) -> Vec<u8> {
+        encode_array(trees).unwrap()
+    }
+
+    fn query(stages: &[Stage]) -> Vec<u8> {
+        encode_query(stages).unwrap()
+    }
+
+    fn voids_and_text(voids: usize, text: usize) -> Vec<Tree> {
+        let mut trees = vec![Tree::void(); voids];
+        trees.push(Tree::text(&vec![7; text]));
+        trees
+    }
+
+    fn number(query: &[u8], input: &[u8], joined: &[u8]) -> u8 {
+        plain_run(query, input, joined, WORK_LEAST, &[187; ARRAY_LIMIT]).number
+    }
+
+    fn empty_group() -> Stage {
+        Stage::Group { aggregates: vec![], grouping: vec![] }
+    }
+
+    #[test]
+    fn the_programs_example() {
+        let outcome = plain_run(&NO_STAGE, &EMPTY, &EMPTY, WORK_LEAST, &[9; 5]);
+        assert_eq!(outcome, Outcome { number: 0, length: 3, result: vec![1, 0, 0, 9, 9], work: Work::Zero });
+    }
+
+    #[test]
+    fn refusals_in_their_order() {
+        let (long_query, bad, long) = (vec![0; 4_097], vec![1], vec![0; 16_385]);
+        let run = |query: &[u8], input: &[u8], joined: &[u8], work| {
+            let outcome = plain_run(query, input, joined, work, &[3; 4]);
+            assert_eq!((outcome.length, outcome.result), (0, vec![3; 4]));
+            outcome.number
+        };
+        assert_eq!(run(&long_query, &long, &long, 65_535), 1);
+        assert_eq!(run(&long_query, &long, &long, 65_536), 2);
+        assert_eq!(run(&bad, &long, &long, 65_536), 3);
+        assert_eq!(run(&NO_STAGE, &long, &long, 65_536), 4);
+        assert_eq!(run(&NO_STAGE, &bad, &long, 65_536), 5);
+        assert_eq!(run(&NO_STAGE, &EMPTY, &long, 65_536), 6);
+        assert_eq!(run(&NO_STAGE, &EMPTY, &bad, 65_536), 7);
+    }
+
+    #[test]
+    fn only_refusal_1_keeps_the_work_area() {
+        assert_eq!(plain_run(&[], &[], &[], 0, &[]).work, Work::Kept);
+        assert_eq!(plain_run(&[], &[], &[], WORK_LEAST, &[]).work, Work::Zero);
+    }
+
+    #[test]
+    fn the_tree_limit() {
+        let tree = |text| array(&[Tree::void().with(1, voids_and_text(338, text))]);
+        assert_eq!(number(&NO_STAGE, &tree(1), &EMPTY), 0);
+        assert_eq!(number(&NO_STAGE, &tree(2), &EMPTY), 5);
+        assert_eq!(number(&NO_STAGE, &EMPTY, &tree(2)), 7);
+    }
+
+    #[test]
+    fn the_array_limit() {
+        let at = array(&voids_and_text(2_729, 1));
+        assert_eq!(at.len(), 16_384);
+        assert_eq!(number(&NO_STAGE, &at, &at), 0);
+        let past = array(&voids_and_text(2_729, 2));
+        assert_eq!(number(&NO_STAGE, &past, &EMPTY), 4);
+        assert_eq!(number(&NO_STAGE, &EMPTY, &past), 6);
+    }
+
+    #[test]
+    fn arrays_between_stages_have_no_limit_but_before_a_group() {
+        let input = array(&[Tree::void().with(1, vec![Tree::void(); 100]).with(2, vec![Tree::void(); 100])]);
+        let (one, two) = (Stage::Unwind(vec![1]), Stage::Unwind(vec![2]));
+        let none = Stage::Match(Criterion::Not(Box::new(Criterion::True)));
+        let outcome = |last: &[Stage]| {
+            let stages = [&[one.clone(), two.clone()], last].concat();
+            plain_run(&query(&stages), &input, &EMPTY, WORK_LEAST, &[187; ARRAY_LIMIT])
+        };
+        let accepted = outcome(&[none]);
+        assert_eq!((accepted.number, &accepted.result[..3]), (0, &EMPTY[..]));
+        for (last, refusal) in [(vec![empty_group()], 9), (vec![], 10)] {
+            let refused = outcome(&last);
+            assert_eq!((refused.number, refused.length), (refusal, 0));
+            assert!(refused.result.iter().all(|byte| *byte == 0));
+        }
+    }
+
+    #[test]
+    fn a_tree_too_large_goes_before_a_long_array_of_its_stretch() {
+        let input = array(&[Tree::void().with(1, vec![Tree::void(); 100]).with(2, vec![Tree::void(); 100])]);
+        let large = Stage::Project(vec![Item::Place(Data::Literal(vec![Tree::void(); 400]), vec![1])]);
+        let stages = [Stage::Unwind(vec![1]), Stage::Unwind(vec![2]), large.clone(), empty_group()];
+        assert_eq!(number(&query(&stages), &input, &EMPTY), 8);
+        let later = [Stage::Unwind(vec![1]), Stage::Unwind(vec![2]), empty_group(), large];
+        assert_eq!(number(&query(&later), &input, &EMPTY), 9);
+    }
+
+    #[test]
+    fn the_result_area_may_be_just_long_enough() {
+        let input = array(&[Tree::integer(4)]);
+        let run = |length: usize| plain_run(&NO_STAGE, &input, &EMPTY, WORK_LEAST, &vec![187; length]);
+        let enough = run(input.len());
+        assert_eq!((enough.number, enough.result), (0, input.clone()));
+        let short = run(input.len() - 1);
+        assert_eq!((short.number, short.result), (10, vec![0; input.len() - 1]));
+    }
+
+    #[test]
+    fn a_limit_on_trees_leaves_a_case_out() {
+        let input = array(&[Tree::void().with(1, vec![Tree::void(); 100])]);
+        let stages = query(&[Stage::Unwind(vec![1])]);
+        assert_eq!(decide(&stages, &input, &EMPTY, WORK_LEAST, 20_000, 99), None);
+        assert!(decide(&stages, &input, &EMPTY, WORK_LEAST, 20_000, 100).is_some());
+    }
+}

@@ -1,0 +1,133 @@
+//! Why the engine refuses a call.
+
+use std::error::Error;
+use std::fmt;
+
+/// Why the engine refused a call: the ten causes of document 01's table.
+///
+/// They are tested in the order of their numbers. The words of `Display` are
+/// the table's.
+#[derive(Clone, Copy, Debug, PartialEq, Eq, Hash)]
+#[non_exhaustive]
+pub enum Refusal {
+    /// 1: the work area has under 65,536 bytes. It and the result area are as they were.
+    WorkShort,
+    /// 2: the query has over 4,096 bytes. The result area is as it was.
+    QueryLong,
+    /// 3: the query is not the byte form of any query. The result area is as it was.
+    QueryMalformed,
+    /// 4: the input has over 16,384 bytes. The result area is as it was.
+    InputLong,
+    /// 5: the input is not the byte form of any array, or a tree in it is too
+    /// large. The result area is as it was.
+    InputMalformed,
+    /// 6: the joined array has over 16,384 bytes. The result area is as it was.
+    JoinedLong,
+    /// 7: the joined array is not the byte form of any array, or a tree in it
+    /// is too large. The result area is as it was.
+    JoinedMalformed,
+    /// 8: a tree passed 2,048 bytes or depth 16 in a stretch. The result area is all zero.
+    TreeLarge,
+    /// 9: an array that enters a group has over 16,384 bytes. The result area is all zero.
+    GroupLong,
+    /// 10: the last array has over 16,384 bytes, or more than the result area.
+    /// The result area is all zero.
+    ResultLong,
+    /// A number that is not in document 01's table. The engine that this crate
+    /// was written for never gives one; a later engine may.
+    Unlisted(u32),
+}
+
+impl Refusal {
+    /// The ten of document 01's table, number 1 first.
+    pub const ALL: [Refusal; 10] = [
+        Refusal::WorkShort,
+        Refusal::QueryLong,
+        Refusal::QueryMalformed,
+        Refusal::InputLong,
+        Refusal::InputMalformed,
+        Refusal::JoinedLong,
+        Refusal::JoinedMalformed,
+        Refusal::TreeLarge,
+        Refusal::GroupLong,
+        Refusal::ResultLong,
+    ];
+
+    /// Document 01's number of this refusal.
+    pub fn number(self) -> u32 {
+        match self {
+            Refusal::WorkShort => 1,
+            Refusal::QueryLong => 2,
+            Refusal::QueryMalformed => 3,
+            Refusal::InputLong => 4,
+            Refusal::InputMalformed => 5,
+            Refusal::JoinedLong => 6,
+            Refusal::JoinedMalformed => 7,
+            Refusal::TreeLarge => 8,
+            Refusal::GroupLong => 9,
+            Refusal::ResultLong => 10,
+            Refusal::Unlisted(number) => number,
+        }
+    }
+
+    /// The refusal of a number other than 0.
+    fn from_number(number: u32) -> Refusal {
+        Refusal::ALL
+            .into_iter()
+            .find(|refusal| refusal.number() == number)
+            .unwrap_or(Refusal::Unlisted(number))
+    }
+}
+
+impl fmt::Display for Refusal {
+    fn fmt(&self, out: &mut fmt::Formatter<'_>) -> fmt::Result {
+        let words = match self {
+            Refusal::WorkShort => "work area under 65,536 bytes",
+            Refusal::QueryLong => "query over 4,096 bytes",
+            Refusal::QueryMalformed => "query malformed",
+            Refusal::InputLong => "input over 16,384 bytes",
+            Refusal::InputMalformed => "input malformed, tree limits included",
+            Refusal::JoinedLong => "joined array over 16,384 bytes",
+            Refusal::JoinedMalformed => "joined array malformed, tree limits included",
+            Refusal::TreeLarge => "tree too large in a stretch",
+            Refusal::GroupLong => "array entering a group over 16,384 bytes",
+            Refusal::ResultLong => "final array over 16,384 bytes or over the result area",
+            Refusal::Unlisted(_) => "a cause that this crate does not know",
+        };
+        write!(out, "refused {}: {words}", self.number())
+    }
+}
+
+impl Error for Refusal {}
+
+/// Takes an answer of the engine apart: the number above 32 bits, the length below.
+pub(crate) fn length_of(answer: u64) -> Result<usize, Refusal> {
+    let (number, length) = ((answer >> 32) as u32, answer as u32);
+    match number {
+        0 => Ok(length as usize),
+        _ => Err(Refusal::from_number(number)),
+    }
+}
+
+#[cfg(test)]
+mod tests {
+    use super::*;
+
+    #[test]
+    fn an_answer_is_a_number_and_a_length() {
+        assert_eq!(length_of(30), Ok(30));
+        for (number, refusal) in (1u32..).zip(Refusal::ALL) {
+            assert_eq!(refusal.number(), number);
+            assert_eq!(length_of(u64::from(number) << 32), Err(refusal));
+        }
+    }
+
+    #[test]
+    fn a_number_of_a_later_engine_has_words_too() {
+        assert_eq!(length_of(11 << 32), Err(Refusal::Unlisted(11)));
+        assert_eq!(
+            Refusal::Unlisted(11).to_string(),
+            "refused 11: a cause that this crate does not know"
+        );
+    }
+}
