@@ -1,0 +1,4 @@
+-- Definitions.
+pub mod Record
+-- Laws.
+pub mod RecordLaws
