@@ -19,7 +19,9 @@
  * The query, the input and the joined array are only read. What the work
  * area and the result area hold after a call is fixed by the arguments
  * alone, and stands in the table below. That is proved of the library's
- * code, for all bytes and all lengths; docs/CERTIFICATE.md says how.
+ * code, for all bytes and all lengths; docs/CERTIFICATE.md says how. Every
+ * call ends, but its time has no bound: unwinds multiply trees, and a call
+ * cannot be cancelled.
  *
  * Byte forms
  * ----------

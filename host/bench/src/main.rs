@@ -7,46 +7,14 @@ mod opponent;
 use cases::{Case, KINDS};
 use std::hint::black_box;
 use std::time::Instant;
-
-extern "C" {
-    fn tquery_run(
-        query: *const u8,
-        query_length: usize,
-        input: *const u8,
-        input_length: usize,
-        joined: *const u8,
-        joined_length: usize,
-        work: *mut u8,
-        work_length: usize,
-        result: *mut u8,
-        result_length: usize,
-    ) -> u64;
-}
+use tquery::Engine;
 
 const SIZES: [usize; 5] = [1024, 2048, 4096, 8192, 16384];
 const ROUNDS: usize = 101;
 
 /// The engine's answer: the length, or the number of the refusal.
 fn engine(c: &Case, work: &mut [u8], result: &mut [u8]) -> Result<usize, u32> {
-    // SAFETY: five areas that are as long as said, of which the two that are written overlap no other.
-    let answer = unsafe {
-        tquery_run(
-            c.query.as_ptr(),
-            c.query.len(),
-            c.input.as_ptr(),
-            c.input.len(),
-            c.joined.as_ptr(),
-            c.joined.len(),
-            work.as_mut_ptr(),
-            work.len(),
-            result.as_mut_ptr(),
-            result.len(),
-        )
-    };
-    match (answer >> 32) as u32 {
-        0 => Ok((answer & 0xffff_ffff) as usize),
-        n => Err(n),
-    }
+    Engine::new(work).run(&c.query, &c.input, &c.joined, result).map_err(|r| r.number())
 }
 
 fn floor(c: &Case, work: &mut [u8], result: &mut [u8]) {
