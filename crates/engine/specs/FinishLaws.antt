@@ -12,8 +12,7 @@ use Rattle.format.specs.declared.area.Out.the-variants.{At, TooLarge}
 use Rattle.format.specs.Limits.{arrayMax}
 use Rattle.format.specs.OptionLaws.{leb-yes, leb-no}
 use Rattle.format.specs.Tree.{Tree, trees}
-use Rattle.format.specs.Size.{sizeA, arraySize}
-use Rattle.format.specs.SizeLaws.{length-treeFs}
+use Rattle.format.specs.Size.{arraySize}
 use Rattle.format.specs.Bytes.{fieldBytes, bytes, treeFs, arrayF, arrayBytes}
 use Rattle.format.specs.Area.{Is, Wrote, headBytes}
 use Rattle.format.specs.AreaLaws.{is-part, told}
@@ -21,6 +20,7 @@ use Rattle.format.specs.Stand.{treesBytes, Holds}
 use Rattle.query.specs.Places.{arrayTrees}
 use Rattle.stages.specs.Stages.{State, going, large, long}
 use Rattle.stretches.specs.declared.ended.Ended.{Ended}
+use Rattle.stretches.specs.LaterLaws.{size-is}
 use Rattle.stretches.specs.Ended.{collectorAt, HeldIs, FullIs, Ends}
 use Rattle.engine.specs.declared.answer.Refusal.{Refusal}
 use Rattle.engine.specs.declared.answer.Refusal.the-variants.{TreeLarge, GroupLong, ResultLong}
@@ -69,10 +69,6 @@ array-is : (ts : List Tree) → headBytes 1 (length (arrayTrees ts)) ++ arrayTre
 unfolding arrayBytes arrayF fieldBytes
 array-is ts = refl
 
-array-size : (ts : List Tree) → arraySize ts ≡ length (arrayTrees ts) + 3
-unfolding arraySize
-array-size ts = omega (arith, length-treeFs (trees ts))
-
 bytes-size : (ts : List Tree) → length (arrayBytes ts) ≡ length (arrayTrees ts) + 3
 bytes-size ts = sym (ap length (array-is ts)) ∙ omega (arith, length-append (headBytes 1 (length (arrayTrees ts))) (arrayTrees ts))
 
@@ -97,7 +93,7 @@ module _ {a : Answer} {left : List ℕ} (area : List ℕ) {r : Refusal} (h : (a 
 
   pub failed-room : (w : List ℕ) (n : ℕ) → r ≡ ResultLong → n + 3 ≤ arrayMax → length area < n + 3 → Accepts w n area left a
   failed-room w n z m l ts t =
-      let s : arraySize ts ≡ length (arrayTrees ts) + 3 = array-size ts in
+      let s = size-is ts in
       failed-by z ts (ap₂ _&&_ (leb-yes (arraySize ts) arrayMax (omega (arith, t .ends))) (leb-no (arraySize ts) (length area) (omega (arith, t .ends))))
 
 -- the array that the collector holds was written
@@ -110,7 +106,7 @@ accepted-room w n area {x} from y m l z ts t =
     let p : take (from + n - from) (drop from w) ≡ arrayTrees ts = is-part t2 in
     let q : x ≡ arrayBytes ts = z ∙ ap (λ b. headBytes 1 (length b) ++ b) p ∙ array-is ts in
     let k : n + 3 ≡ length (arrayBytes ts) = omega (arith, bytes-size ts, t .ends) in
-    let s = array-size ts in
+    let s = size-is ts in
     let c : (leb (arraySize ts) arrayMax && leb (arraySize ts) (length area)) ≡ true =
     ap₂ _&&_ (leb-yes (arraySize ts) arrayMax (omega (arith, t .ends))) (leb-yes (arraySize ts) (length area) (omega (arith, t .ends))) in
     rw c record { number = refl; length = k; result = ap₂ (λ b i. b ++ drop i area) q k }

@@ -45,7 +45,7 @@ use Rattle.stretches.specs.Next.{GroupIs, NextPost}
 use Rattle.stretches.specs.Later.{Allows, LastPost, HeldReady, HeldPost, LaterReady, LaterPost}
 
 -- ---- sizes
-size-is : (ts : List Tree) → arraySize ts ≡ 3 + length (arrayTrees ts)
+pub size-is : (ts : List Tree) → arraySize ts ≡ 3 + length (arrayTrees ts)
 unfolding arraySize
 size-is ts = omega (arith, length-treeFs (trees ts))
 
