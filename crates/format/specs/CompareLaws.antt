@@ -1,5 +1,5 @@
 -- Bytes are the same just if they compare as the same; and how a loop compares them.
-use mathlib.Core.Path.{_≡_, refl, ap, ap₂, subst, _∙_}
+use mathlib.Core.Path.{_≡_, refl, sym, ap, ap₂, subst, _∙_}
 use mathlib.Core.List.{List, [], _∷_}
 use mathlib.Core.Logic.{_↔_}
 use mathlib.Core.Bool.{Bool, true, false, _&&_}
@@ -9,7 +9,6 @@ use native.Mathlib.Omega.{arith}
 use lib.ListN.{length, drop, getD, drop-of-length-le}
 use lib.Seq.{drop-cons}
 use lib.Dec.{eqb, eqb→eq}
-use borrow.Author.Tests.{eq-eqb, ne-eqb}
 use Rattle.format.specs.OptionLaws.{T-and, T-true, true-T, eqb-same}
 use Rattle.format.specs.Compare.{sameBytes}
 
@@ -33,7 +32,7 @@ same-equal (x ∷ xs) (y ∷ ys) e =
 pub same-exactly : (a b : List ℕ) → (sameBytes a b ≡ true) ↔ (a ≡ b)
 same-exactly a b = (same-equal a b, equal-same a b)
 
--- ---- a loop from i on
+-- ---- a loop from the last byte on
 pub same-lengths : (a b : List ℕ) → (length a ≡ length b → ⊥) → sameBytes a b ≡ false
 unfolding sameBytes
 same-lengths [] [] n = absurd (n refl)
@@ -45,17 +44,18 @@ same-lengths (x ∷ xs) (y ∷ ys) n = rw (same-lengths xs ys (λ q. n (ap suc q
     and-false true = refl
     and-false false = refl
 
-module _ (a b : List ℕ) (i : ℕ) where
-  pub same-end : length a ≡ length b → length a ≤ i → sameBytes (drop i a) (drop i b) ≡ true
-  same-end q n = rw (drop-of-length-le a {i = i} n, drop-of-length-le b {i = i} (omega arith)) (same-refl [])
+-- they differ where one byte does
+pub same-other : (a b : List ℕ) (i : ℕ) → (getD a i 0 ≡ getD b i 0 → ⊥) → sameBytes a b ≡ false
+same-other a b i n = go (sameBytes a b) refl
+  where
+    go : (t : Bool) → sameBytes a b ≡ t → t ≡ false
+    go true q = absurd (n (ap (λ l. getD l i 0) (same-equal a b q)))
+    go false q = refl
 
-  module _ (p : i < length a) (q : i < length b) where
-    step : sameBytes (drop i a) (drop i b) ≡ (eqb (getD a i 0) (getD b i 0) && sameBytes (drop (i + 1) a) (drop (i + 1) b))
-    unfolding sameBytes
-    step = rw (add-one, drop-cons a i 0 p, drop-cons b i 0 q) refl
+-- what is the same from i + 1 on, and at i, is the same from i on
+pub same-back : (a b : List ℕ) (i : ℕ) → i < length a → i < length b → getD a i 0 ≡ getD b i 0 → drop (i + 1) a ≡ drop (i + 1) b → drop i a ≡ drop i b
+same-back a b i p q e h =
+    drop-cons a i 0 p ∙ ap₂ _∷_ e (ap (λ n. drop n a) (sym (add-one i)) ∙ h ∙ ap (λ n. drop n b) (add-one i)) ∙ sym (drop-cons b i 0 q)
 
-    pub same-next : getD a i 0 ≡ getD b i 0 → sameBytes (drop i a) (drop i b) ≡ sameBytes (drop (i + 1) a) (drop (i + 1) b)
-    same-next e = step ∙ rw (eq-eqb _ _ e) refl
-
-    pub same-other : (getD a i 0 ≡ getD b i 0 → ⊥) → sameBytes (drop i a) (drop i b) ≡ false
-    same-other e = step ∙ rw (ne-eqb _ _ e) refl
+pub same-start : (a b : List ℕ) → length a ≡ length b → drop (length a) a ≡ drop (length a) b
+same-start a b q = drop-of-length-le a {i = length a} (omega arith) ∙ sym (drop-of-length-le b {i = length a} (omega arith))

@@ -2,12 +2,13 @@
 use mathlib.Core.Path.{_≡_, refl, sym, ap, _∙_}
 use mathlib.Core.List.{List}
 use mathlib.Core.Bool.{Bool, true, false, _&&_}
-use Prim.Native.Nat.{ℕ, suc, _+_, _-_, _<_, max}
+use Prim.Native.Nat.{ℕ, suc, _+_, _*_, _-_, _/_, _≤_, _<_, max}
 use native.Mathlib.Omega.{arith}
 use lib.Dec.{leb, eqb}
 use borrow.Author.Tests.{le-leb, lt-leb, leb-true, leb-false, eqb-true, eqb-false}
-use Rattle.format.specs.Tree.{Tree, node, Trees, ε, _▹_, Labels, label, labels}
-use Rattle.format.specs.Size.{depth, depthA, depthL}
+use Rattle.format.specs.Tree.{Root, void, boolean, integer, text, Tree, node, Trees, ε, _▹_, Labels, bare, label, labels}
+use Rattle.format.specs.Size.{rootSize, size, sizeA, sizeL, depth, depthA, depthL}
+use Rattle.format.specs.SizeLaws.{length-treeFs}
 use Rattle.format.specs.Bytes.{treeBytes}
 use Rattle.format.specs.Area.{Is, fieldEnd}
 use Rattle.format.specs.Stand.{treesBytes, labelsBytes, Says}
@@ -37,6 +38,29 @@ tree-level : (t : Tree) → 0 < depth t
 unfolding depth
 tree-level (node r ls) = omega arith
 
+-- ---- a level takes 13 bytes or more: the heads of a tree, of its root, of a label and of its array, and the label; the last
+-- of them takes 6
+root-bytes : (r : Root) → 3 ≤ rootSize r
+unfolding rootSize
+root-bytes void = omega arith
+root-bytes (boolean b) = omega arith
+root-bytes (integer z) = omega arith
+root-bytes (text s) = omega arith
+
+mutual
+  unfolding depth size
+
+  tree-bytes : (t : Tree) → 13 * depth t ≤ size t + 7
+  tree-bytes (node r ls) = omega (arith, root-bytes r, labels-bytes ls)
+
+  trees-bytes : (ts : Trees) → 13 * depthA ts ≤ sizeA ts + 7
+  trees-bytes ε = omega arith
+  trees-bytes (t ▹ ts) = omega (arith, tree-bytes t, trees-bytes ts)
+
+  labels-bytes : (ls : Labels) → 13 * depthL ls ≤ sizeL ls
+  labels-bytes bare = omega arith
+  labels-bytes (label k a ls) = omega (arith, trees-bytes a, labels-bytes ls)
+
 -- ---- what a measure says of the trees, or of the labels, from p to e
 abbrev TreesSay : (s : List ℕ) (left p e : ℕ) → Bool → Type 0
 TreesSay s left p e r = Says treesBytes (λ ts. leb (depthA ts) left) s p e r
@@ -52,6 +76,10 @@ module _ (s : List ℕ) (left p e : ℕ) where
   pub labels-end : p ≡ e → LabelsSay s left p e true
   unfolding depth
   labels-end q ls h = sym (ap (λ x. leb (depthL x) left) (labels-none ls q h) ∙ le-leb 0 left (omega arith))
+
+  -- too few bytes for more levels than are left
+  pub trees-short : (e - p + 7) / 13 ≤ left → TreesSay s left p e true
+  trees-short q ts h = sym (le-leb (depthA ts) left (omega (arith, trees-bytes ts, h .ends, length-treeFs ts)))
 
   -- where no level is left there may be no tree
   trees-level : (p ≡ e → ⊥) → left ≡ 0 → TreesSay s left p e false

@@ -21,7 +21,7 @@ use Rattle.format.specs.AreaLaws.{take-less, is-keep, told, fitted-keep, fitted
 use Rattle.format.specs.Stand.{treesBytes, Holds, Says}
 use Rattle.stages.specs.Merge.{merge, build}
 use Rattle.stages.specs.KeepLaws.{merge-ok}
-use Rattle.merging.specs.MergeBytes.{Ready, TreesMerged, Standing, Addable, PartAdded, Added}
+use Rattle.merging.specs.MergeBytes.{Ready, TreesMerged, DepthSaid, Standing, Addable, PartAdded, Added}
 
 -- ---- `build`, part by part
 pub build-next : (s t : Tree) (ts : List Tree) → (fits t && fits (merge s t)) ≡ true → build s (t ∷ ts) ≡ build (merge s t) ts
@@ -93,26 +93,22 @@ one-depth : (t : Tree) → depthA (t ▹ ε) ≡ depth t
 unfolding depth
 one-depth t = omega arith
 
--- whether the trees that stand there take at most as many levels as a tree may
-abbrev DepthSaid : (w : List ℕ) (p e : ℕ) → Bool → Type 0
-DepthSaid w p e o = Says treesBytes (λ ts. leb (depthA ts) depthMax) w p e o
-
-depth-said : {w : List ℕ} {p e : ℕ} {o : Bool} (t : Tree) → Is w p e (treeBytes t) → DepthSaid w p e o → leb (depth t) depthMax ≡ o
+pub depth-said : {w : List ℕ} {p e : ℕ} {o : Bool} (t : Tree) → Is w p e (treeBytes t) → DepthSaid w p e o → leb (depth t) depthMax ≡ o
 depth-said t h k = ap (λ n. leb n depthMax) (sym (one-depth t)) ∙ sym (k (t ▹ ε) (one-is t h))
 
 -- ---- the tests
-fits-by-depth : (t : Tree) (o : Bool) → size t ≤ treeMax → leb (depth t) depthMax ≡ o → fits t ≡ o
+pub fits-by-depth : (t : Tree) (o : Bool) → size t ≤ treeMax → leb (depth t) depthMax ≡ o → fits t ≡ o
 unfolding fits
 fits-by-depth t o b q = ap (λ x. x && leb (depth t) depthMax) (le-leb (size t) treeMax b) ∙ q
 
-fits-not : (t : Tree) → treeMax < size t → fits t ≡ false
+pub fits-not : (t : Tree) → treeMax < size t → fits t ≡ false
 unfolding fits
 fits-not t b = ap (λ x. x && leb (depth t) depthMax) (lt-leb (size t) treeMax b)
 
-both : {a b x y : Bool} → a ≡ x → b ≡ y → (a && b) ≡ (x && y)
+pub both : {a b x y : Bool} → a ≡ x → b ≡ y → (a && b) ≡ (x && y)
 both p q = ap₂ _&&_ p q
 
-refused : {w u : List ℕ} {s ie : ℕ} {x y : Tree} → (fits y && fits (merge x y)) ≡ false → take s u ≡ take s w
+pub refused : {w u : List ℕ} {s ie : ℕ} {x y : Tree} → (fits y && fits (merge x y)) ≡ false → take s u ≡ take s w
     → ((top : ℕ) → ie + treeMax ≤ top → drop top u ≡ drop top w) → PartAdded w u s ie x y TooLarge
 refused q a b = record {
   fit = λ e z. let y : _≡_ {A = ℕ} 0 1 = cc in absurd (omega arith);
@@ -139,7 +135,7 @@ module _ {w : List ℕ} {s se i ie : ℕ} (h : Addable w s se i ie) where
       }
 
   module _ {o : Bool} (k : DepthSaid w i ie o) where
-    part-fits : (y : Tree) → Is w i ie (treeBytes y) → fits y ≡ o
+    pub part-fits : (y : Tree) → Is w i ie (treeBytes y) → fits y ≡ o
     part-fits y hy =
         let b : size y ≤ treeMax = omega (arith, h .part-room, hy .ends, length-tree y) in
         fits-by-depth y o b (depth-said y hy k)

@@ -2,18 +2,19 @@
 -- a tree does.
 use mathlib.Core.Path.{_≡_}
 use mathlib.Core.List.{List}
-use mathlib.Core.Bool.{true, false, _&&_}
+use mathlib.Core.Bool.{Bool, true, false, _&&_}
 use Prim.Native.Nat.{ℕ, _+_, _≤_}
 use lib.ListN.{length, take, drop}
+use lib.Dec.{leb}
 use Rattle.format.specs.declared.area.Out.{Out}
 use Rattle.format.specs.declared.area.Out.the-variants.{At, TooLarge}
-use Rattle.format.specs.Limits.{treeMax, workMin}
+use Rattle.format.specs.Limits.{treeMax, depthMax, workMin}
 use Rattle.format.specs.Tree.{Tree}
-use Rattle.format.specs.Size.{size, fits}
+use Rattle.format.specs.Size.{size, depthA, fits}
 use Rattle.format.specs.Bytes.{treeBytes}
 use Rattle.format.specs.Within.{Ok}
 use Rattle.format.specs.Area.{Is, Wrote}
-use Rattle.format.specs.Stand.{Holds, entryBytes}
+use Rattle.format.specs.Stand.{Holds, Says, treesBytes, entryBytes}
 use Rattle.stages.specs.Merge.{merge}
 use Rattle.merging.specs.MergeTwo.{Entry}
 
@@ -43,6 +44,10 @@ abbrev pub entryOf : Entry → List ℕ
 entryOf x = entryBytes (x .0) (x .1)
 
 -- ---- a part is added to a tree
+
+-- o is whether the trees that stand there take at most as many levels as a tree may
+abbrev pub DepthSaid : (w : List ℕ) (p e : ℕ) → Bool → Type 0
+DepthSaid w p e o = Says treesBytes (λ ts. leb (depthA ts) depthMax) w p e o
 
 -- a well formed tree stands there
 pub record Standing (w : List ℕ) (p e : ℕ) : Type 0 where

@@ -108,7 +108,7 @@ module _ (k : ℕ) (a : Trees) (ls : Labels) (o : OkL ls k)
   same (label j b ms) m p = by-order k j (before j b ms m p) (λ l. behind j b ms m p l (same ms j (p .3))) (beside j b ms m p)
 
 -- ---- the merge by two fingers is the merge
-root-labels : (t : Tree) → Ok t → OkL (labels t) 0
+pub root-labels : (t : Tree) → Ok t → OkL (labels t) 0
 root-labels (node r ls) o = o .1
 
 mutual

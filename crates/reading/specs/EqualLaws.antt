@@ -1,21 +1,24 @@
 -- Applications compared by their bytes, and by the bytes of their trees.
-use mathlib.Core.Path.{_≡_, refl, sym, ap, ap₂, _∙_}
+use mathlib.Core.Path.{_≡_, refl, sym, ap, ap₂, subst, _∙_}
 use mathlib.Core.List.{List}
-use mathlib.Core.Bool.{Bool, true, false, not}
-use mathlib.Core.Option.{some}
+use mathlib.Core.Bool.{Bool, true, false, not, _&&_}
+use mathlib.Core.Option.{none, some}
 use Prim.Native.Nat.{ℕ, _+_, _-_, _≤_, _<_}
 use native.Mathlib.Omega.{arith}
 use lib.ListN.{length, take, drop, getD}
 use lib.Seq.{slice, take-length}
 use lib.Dec.{eqb}
 use borrow.Author.Tests.{eqb-true, eqb-false}
-use Rattle.format.specs.Tree.{Tree, trees, v}
+use Rattle.format.specs.declared.labels.Found as labels-found
+use Rattle.format.specs.declared.labels.Found.the-variants.{Part, Missing}
+use Rattle.format.specs.Tree.{Tree, list, trees, v}
 use Rattle.format.specs.Bytes.{treeBytes}
 use Rattle.format.specs.Area.{Is}
 use Rattle.format.specs.AreaLaws.{is-part}
 use Rattle.format.specs.Compare.{sameBytes}
 use Rattle.format.specs.CompareLaws.{equal-same, same-equal}
-use Rattle.format.specs.Stand.{treesBytes}
+use Rattle.format.specs.SizeLaws.{trees-list}
+use Rattle.format.specs.Stand.{treesBytes, ArrayIs, FoundIs}
 use Rattle.format.specs.Within.{AllowedA}
 use Rattle.reading.specs.declared.path.Element.{Element}
 use Rattle.reading.specs.declared.path.Element.the-variants as element
@@ -23,9 +26,9 @@ use Rattle.reading.specs.declared.path.Compared.{Compared}
 use Rattle.reading.specs.declared.path.Compared.the-variants.{At, Differs}
 use Rattle.stages.specs.Paths.{Found, present}
 use Rattle.stages.specs.Equality.{sameFound}
-use Rattle.reading.specs.Walk.{given, givenBytes, ElementIs, ComparedIs}
-use Rattle.reading.specs.WalkLaws.{present-some}
-use Rattle.reading.specs.SameLaws.{absent-same, present-same, length-equal, element-equal, elements-equal}
+use Rattle.reading.specs.Walk.{given, givenBytes, isArray, isPart, ElementIs, ComparedIs, OperandIs}
+use Rattle.reading.specs.WalkLaws.{present-some, present-none}
+use Rattle.reading.specs.SameLaws.{absent-same, other-absent, present-same, length-equal, element-equal, elements-equal}
 
 -- ---- bytes that are or are not the same
 module _ (xs ys : List ℕ) where
@@ -41,13 +44,6 @@ module _ (xs ys : List ℕ) where
       let w : _≡_ {A = Bool} true false = sym (equal-same xs ys q) ∙ sym f in
       let y : _≡_ {A = ℕ} 0 1 = cc in
       omega arith
-
-  pub bytes-turned : sameBytes xs ys ≡ sameBytes ys xs
-  bytes-turned = go (sameBytes ys xs) refl
-    where
-      go : (b : Bool) → sameBytes ys xs ≡ b → sameBytes xs ys ≡ b
-      go true q = equal-same xs ys (sym (same-equal ys xs q))
-      go false q = sym (bytes-differ (λ z. let w : _≡_ {A = Bool} true false = sym (equal-same ys xs (sym z)) ∙ q in let y : _≡_ {A = ℕ} 0 1 = cc in omega arith))
 
 -- ---- all of o, looked for from its beginning
 module _ {o xs : List ℕ} {r : Compared} (h : ComparedIs o 0 xs r) where
@@ -65,14 +61,60 @@ module _ {o xs : List ℕ} {r : Compared} (h : ComparedIs o 0 xs r) where
       go true q = sym (equal-same xs o (sym (c .lies) ∙ ap (λ m. slice 0 m o) (eqb-true n (length o) q) ∙ take-length o))
       go false q = bytes-differ xs o (λ e. eqb-false n (length o) q (omega (arith, c .ends, ap length e)))
 
--- ---- a literal
-pub absent-array : (x : Found) (a : List Tree) → present x ≡ false → false ≡ sameFound x (some a)
-absent-array x a q = ap not (present-some a) ∙ absent-same x (some a) q
+-- ---- an application and an array's bytes
+module _ (x : Found) (o : List ℕ) where
+  pub array-absent : present x ≡ false → false ≡ isArray x o
+  array-absent q = sym (ap (λ b. b && sameBytes (givenBytes x) o) q)
 
-pub equals-array : (x : Found) (a : List Tree) {o : List ℕ} {r : Bool} → present x ≡ true → AllowedA (given x) → AllowedA a → o ≡ treesBytes (trees a)
-    → r ≡ sameBytes (givenBytes x) o → r ≡ sameFound x (some a)
+  pub array-missing : x ≡ none → false ≡ isArray x o
+  array-missing q = array-absent (ap present q ∙ sym present-none)
+
+  pub array-given : {r : Bool} → present x ≡ true → r ≡ sameBytes (givenBytes x) o → r ≡ isArray x o
+  array-given q e = e ∙ sym (ap (λ b. b && sameBytes (givenBytes x) o) q)
+
+  pub array-part : {s : List ℕ} {a b f t : ℕ} {r : Bool} → ArrayIs s a b x f t → r ≡ sameBytes (take (t - f) (drop f s)) o → r ≡ isArray x o
+  unfolding given
+  array-part c e =
+      let k : givenBytes x ≡ treesBytes (c .array) = ap givenBytes (c .same) ∙ ap treesBytes (trees-list (c .array)) in
+      array-given (ap present (c .same) ∙ sym (present-some (list (c .array)))) (e ∙ ap (λ l. sameBytes l o) (is-part (c .array-is) ∙ sym k))
+
+-- an application is an array that stands as o
+pub is-array : (x : Found) (a : List Tree) {o : List ℕ} {r : Bool} → AllowedA (given x) → AllowedA a → o ≡ treesBytes (trees a) → r ≡ isArray x o
+    → r ≡ sameFound x (some a)
 unfolding given
-equals-array x a p ox oa q e = e ∙ ap (sameBytes (givenBytes x)) q ∙ present-same x (some a) p (sym (present-some a)) ox oa
+is-array x a {o} {r} ox oa q e = go (present x) refl
+  where
+    go : (b : Bool) → present x ≡ b → r ≡ sameFound x (some a)
+    go true p = e ∙ ap (λ b. b && sameBytes (givenBytes x) o) p ∙ ap (sameBytes (givenBytes x)) q ∙ present-same x (some a) p (sym (present-some a)) ox oa
+    go false p = e ∙ ap (λ b. b && sameBytes (givenBytes x) o) p ∙ ap not (present-some a) ∙ absent-same x (some a) p
+
+-- an application beside one that stands in one piece, or is absent
+module _ (x : Found) {y : Found} {s : List ℕ} {a b : ℕ} {found : labels-found.Found} (h : FoundIs s a b y found) where
+  pub piece-missing : {r : Bool} → found ≡ Missing → r ≡ present x → not r ≡ sameFound x y
+  piece-missing z e = ap not e ∙ other-absent x y (ap present (h .missing z) ∙ sym present-none)
+
+  pub piece-same : {f t : ℕ} {o : List ℕ} {r : Bool} → found ≡ Part f t → OperandIs s f t o → AllowedA (given x) → AllowedA (given y) → r ≡ isArray x o → r ≡ sameFound x y
+  unfolding given
+  piece-same {f} {t} {o} {r} z k ox oy e =
+      let c = h .part f t z in
+      subst (λ i. r ≡ sameFound x i) (sym (c .same))
+      (is-array x (list (c .array)) ox (subst (λ i. AllowedA (given i)) (c .same) oy) (k (c .array) (c .array-is) ∙ sym (ap treesBytes (trees-list (c .array)))) e)
+
+-- two that stand in one piece, or are absent
+part-present : {x : Found} {s : List ℕ} {a b : ℕ} (found : labels-found.Found) → FoundIs s a b x found → isPart found ≡ present x
+part-present (Part f t) h = present-some (list (h .part f t refl .array)) ∙ sym (ap present (h .part f t refl .same))
+part-present Missing h = present-none ∙ sym (ap present (h .missing refl))
+
+module _ {x y : Found} {s : List ℕ} {a b : ℕ} {s2 : List ℕ} {a2 b2 : ℕ} {one other : labels-found.Found} (h : FoundIs s a b x one) (k : FoundIs s2 a2 b2 y other) where
+  pub pieces-missing : {r : Bool} → other ≡ Missing → r ≡ isPart one → not r ≡ sameFound x y
+  pieces-missing z e = piece-missing x k z (e ∙ part-present one h)
+
+  module _ {g u : ℕ} (z : other ≡ Part g u) (ox : AllowedA (given x)) (oy : AllowedA (given y)) where
+    pub pieces-other : one ≡ Missing → false ≡ sameFound x y
+    pieces-other m = piece-same x k z (λ ts i. is-part i) ox oy (array-missing x (take (u - g) (drop g s2)) (h .missing m))
+
+    pub pieces-same : {f t : ℕ} {r : Bool} → one ≡ Part f t → r ≡ sameBytes (take (t - f) (drop f s)) (take (u - g) (drop g s2)) → r ≡ sameFound x y
+    pieces-same {f} {t} m e = piece-same x k z (λ ts i. is-part i) ox oy (array-part x (take (u - g) (drop g s2)) (h .part f t m) e)
 
 -- ---- tree by tree
 module _ (xs ys : List Tree) where

@@ -1,78 +1,56 @@
 -- What a path of at most one label gives stands in one piece.
-use mathlib.Core.Path.{_≡_, refl, sym, ap, _∙_}
-use mathlib.Core.List.{List, [], _∷_, map}
-use mathlib.Core.Bool.{Bool, true, false}
-use mathlib.Core.Option.{some}
-use Prim.Native.Nat.{ℕ, _+_, _-_, _≤_, _<_}
+use mathlib.Core.Path.{_≡_, refl, sym, ap, subst, _∙_}
+use mathlib.Core.List.{List, [], _∷_, _++_, map, append-nil}
+use mathlib.Core.Option.{none, some}
+use Prim.Native.Nat.{ℕ, _+_, _≤_, _<_}
 use native.Mathlib.Omega.{arith}
-use lib.ListN.{take, drop, drop-of-length-le}
+use lib.ListN.{drop, drop-of-length-le}
 use Rattle.format.specs.declared.labels.Found as labels-found
-use Rattle.format.specs.declared.labels.Found.the-variants.{Part, Missing}
-use Rattle.format.specs.Tree.{Tree, list, trees}
-use Rattle.format.specs.Bytes.{treeBytes}
-use Rattle.format.specs.AreaLaws.{is-part}
-use Rattle.format.specs.SizeLaws.{trees-list}
-use Rattle.format.specs.Stand.{treesBytes, Holds}
-use Rattle.query.specs.Steps.{stepCount}
+use Rattle.format.specs.declared.labels.Found.the-variants.{Part}
+use Rattle.format.specs.Options.{_>>=_}
+use Rattle.format.specs.Tree.{Tree, ε, _▹_, labels, find}
+use Rattle.format.specs.Bytes.{bytes, treeFs, treeBytes}
+use Rattle.format.specs.Area.{Is}
+use Rattle.format.specs.Stand.{FoundIs}
+use Rattle.query.specs.Steps.{stepCount, stepAt}
 use Rattle.query.specs.StepLaws.{steps-are}
-use Rattle.stages.specs.Paths.{Found, joins, over, apply}
-use Rattle.reading.specs.Walk.{given, givenBytes, Walk, Tells, TellsOver, Under, Operand, OperandIs}
-use Rattle.reading.specs.WalkLaws.{given-join, given-over, tells-end, tells-missing, tells-part}
-use Rattle.reading.specs.ComparedLaws.{one-bytes, none-bytes}
+use Rattle.stages.specs.Paths.{Found, join, joins, over, apply}
+use Rattle.reading.specs.Walk.{Tells, Under}
+use Rattle.reading.specs.WalkLaws.{step-apply, tells-end}
 
 -- the empty path gives the trees themselves
-given-each : (ts : List Tree) → given (joins (map (apply []) ts)) ≡ ts
-unfolding given joins apply
-given-each [] = refl
-given-each (t ∷ ts) = given-join (some (t ∷ [])) (joins (map (apply []) ts)) ∙ ap (λ l. t ∷ l) (given-each ts)
+joins-itself : (t : Tree) (ts : List Tree) → joins (map (apply []) (t ∷ ts)) ≡ some (t ∷ ts)
+unfolding joins join apply
+joins-itself t [] = refl
+joins-itself t (u ∷ us) = ap (join (some (t ∷ []))) (joins-itself u us)
 
--- over an array, at the end of the path
-module _ (q : List ℕ) (p e i : ℕ) (s : List ℕ) (a b : ℕ) where
-  over-end : i ≡ stepCount p e → TellsOver q p e i s a b (λ x. take (b - a) (drop a s) ≡ givenBytes x)
-  over-end z path ts g h =
-      let n : drop i path ≡ [] = drop-of-length-le path {i = i} (omega (arith, steps-are g)) in
-      let k : given (over (apply (drop i path)) (list ts)) ≡ list ts =
-      ap (λ l. given (over (apply l) (list ts))) n ∙ given-over (apply []) (list ts) ∙ given-each (list ts) in
-      is-part h ∙ sym (ap (λ l. treesBytes (trees l)) k ∙ ap treesBytes (trees-list ts))
+over-itself : (ts : List Tree) → over (apply []) ts ≡ some ts
+unfolding over
+over-itself [] = refl
+over-itself (t ∷ ts) = joins-itself t ts
 
--- ---- what a path of at most one label gives
+found-itself : (x : Found) → (x >>= over (apply [])) ≡ x
+unfolding _>>=_
+found-itself none = refl
+found-itself (some a) = over-itself a
+
 module _ (q : List ℕ) (p e : ℕ) (s : List ℕ) (a b : ℕ) where
-  pub reached-whole : 0 ≡ stepCount p e → Tells q p e 0 s a b (λ x. take (b - a) (drop a s) ≡ givenBytes x)
-  reached-whole z = tells-end q p e 0 s a b (λ x. take (b - a) (drop a s) ≡ givenBytes x) z (λ t h. is-part h ∙ one-bytes t)
+  pub piece-whole : 0 ≡ stepCount p e → Tells q p e 0 s a b (λ x. FoundIs s a b x (Part a b))
+  unfolding bytes treeBytes treeFs
+  piece-whole z = tells-end q p e 0 s a b (λ x. FoundIs s a b x (Part a b)) z (λ t h. record {
+    part = λ f u y. let i : a ≡ f = cc in let j : b ≡ u = cc in record {
+      array = t ▹ ε;
+      same = refl;
+      array-is = subst (λ n. Is s n u (treeBytes t ++ [])) i (subst (λ n. Is s a n (treeBytes t ++ [])) j (subst (Is s a b) (sym (append-nil (treeBytes t))) h));
+      after = omega arith;
+      within = omega arith;
+    };
+    missing = λ y. let x : _≡_ {A = ℕ} 0 1 = cc in absurd (omega arith);
+  })
 
-  module _ (n : 0 < stepCount p e) {r : labels-found.Found} (u : Under q p 0 s a b r) where
-    pub reached-none : r ≡ Missing → Tells q p e 0 s a b (λ x. [] ≡ givenBytes x)
-    reached-none z = tells-missing q p e 0 s a b (λ x. [] ≡ givenBytes x) n u z none-bytes
-
-    pub reached-part : {x y : ℕ} → stepCount p e ≤ 1 → r ≡ Part x y → Tells q p e 0 s a b (λ o. take (y - x) (drop x s) ≡ givenBytes o)
-    reached-part {x} {y} l z =
-        tells-part q p e 0 s a b (λ o. take (y - x) (drop x s) ≡ givenBytes o) n u z (over-end q p e (0 + 1) s x y (omega arith))
-
--- ---- the operand
-module _ (q : List ℕ) (p e : ℕ) (s : List ℕ) (a b : ℕ) where
-  pub operand-array : {l : Bool} → l ≡ true → OperandIs l q p e s a b (take (e - p) (drop p q))
-  operand-array {l} z = record {
-    array = λ _ ts h. is-part h;
-    path = λ y. let w : _≡_ {A = Bool} true false = sym z ∙ y in let x : _≡_ {A = ℕ} 0 1 = cc in absurd (omega arith);
-  }
-
-  pub operand-path : {l : Bool} {r : List ℕ} → l ≡ false → Tells q p e 0 s a b (λ x. r ≡ givenBytes x) → OperandIs l q p e s a b r
-  operand-path {l} {r} z h = record {
-    array = λ y. let w : _≡_ {A = Bool} true false = sym y ∙ z in let x : _≡_ {A = ℕ} 0 1 = cc in absurd (omega arith);
-    path = λ _. h;
-  }
-
-  -- what asks for it
-  pub array-operand : Holds treesBytes q p e → Operand true q p e s a b
-  array-operand h = record {
-    array = λ _. h;
-    path = λ y. let x : _≡_ {A = ℕ} 0 1 = cc in absurd (omega arith);
-    short = λ y. let x : _≡_ {A = ℕ} 0 1 = cc in absurd (omega arith);
-  }
-
-  pub path-operand : Walk treeBytes q p e 0 s a b → stepCount p e ≤ 1 → Operand false q p e s a b
-  path-operand w l = record {
-    array = λ y. let x : _≡_ {A = ℕ} 0 1 = cc in absurd (omega arith);
-    path = λ _. w;
-    short = λ _. l;
-  }
+  pub piece-under : {r : labels-found.Found} → 0 < stepCount p e → stepCount p e ≤ 1 → Under q p 0 s a b r → Tells q p e 0 s a b (λ x. FoundIs s a b x r)
+  piece-under {r} n l u path t g h =
+      let k : drop (0 + 1) path ≡ [] = drop-of-length-le path {i = 0 + 1} (omega (arith, steps-are g)) in
+      subst (λ x. FoundIs s a b x r)
+      (sym (step-apply q p e 0 n path t g ∙ ap (λ c. find (stepAt q p 0) (labels t) >>= over (apply c)) k ∙ found-itself (find (stepAt q p 0) (labels t))))
+      (u t h)

@@ -92,6 +92,22 @@ absent-same none none q = refl
 absent-same none (some b) q = refl
 absent-same (some a) y q = let z : _≡_ {A = ℕ} 0 1 = cc in absurd (omega arith)
 
+pub other-absent : (x y : Found) → present y ≡ false → not (present x) ≡ sameFound x y
+unfolding present sameFound
+other-absent none none q = refl
+other-absent (some a) none q = refl
+other-absent x (some b) q = let z : _≡_ {A = ℕ} 0 1 = cc in absurd (omega arith)
+
+pub same-turned : (x y : Found) → sameFound x y ≡ sameFound y x
+same-turned x y = go (sameFound x y) refl
+  where
+    go : (b : Bool) → sameFound x y ≡ b → b ≡ sameFound y x
+    go true q = sym (same-found y x .1 (sym (same-found x y .0 q)))
+    go false q = not-same y x (λ e.
+        let w : _≡_ {A = Bool} true false = sym (same-found x y .1 (sym e)) ∙ q in
+        let z : _≡_ {A = ℕ} 0 1 = cc in
+        omega arith)
+
 pub absent-other : (x y : Found) → present x ≡ true → present y ≡ false → false ≡ sameFound x y
 unfolding present sameFound
 absent-other none y p q = let z : _≡_ {A = ℕ} 0 1 = cc in absurd (omega arith)

@@ -2,11 +2,12 @@
 -- stands in q from p to e and is read from its step i on; the tree stands in s from a to b.
 use mathlib.Core.Path.{_≡_}
 use mathlib.Core.List.{List, [], map}
-use mathlib.Core.Bool.{Bool, true, false}
+use mathlib.Core.Bool.{Bool, true, false, _&&_}
 use mathlib.Core.Option.{none, some}
 use Prim.Native.Nat.{ℕ, _+_, _≤_, _<_}
 use lib.ListN.{length, drop, getD}
 use Rattle.format.specs.declared.labels.Found as labels-found
+use Rattle.format.specs.declared.labels.Found.the-variants as labels-variants
 use Rattle.format.specs.Tree.{Tree, Trees, list, trees, labels, v, find}
 use Rattle.format.specs.Bytes.{treeBytes}
 use Rattle.format.specs.Area.{Is}
@@ -20,7 +21,7 @@ use Rattle.reading.specs.declared.path.Element.{Element}
 use Rattle.reading.specs.declared.path.Element.the-variants.{Part, Fewer}
 use Rattle.reading.specs.declared.path.Compared.{Compared}
 use Rattle.reading.specs.declared.path.Compared.the-variants.{At, Differs}
-use Rattle.stages.specs.Paths.{Found, joins, over, apply}
+use Rattle.stages.specs.Paths.{Found, present, joins, over, apply}
 use Rattle.stages.specs.Equality.{sameFound}
 
 -- a path's content is its labels
@@ -35,6 +36,10 @@ given (some a) = a
 -- their bytes, one behind another
 abbrev pub givenBytes : Found → List ℕ
 givenBytes x = treesBytes (trees (given x))
+
+-- whether an application is present and gives the trees that o is the bytes of
+abbrev pub isArray : Found → List ℕ → Bool
+isArray x o = present x && sameBytes (givenBytes x) o
 
 -- ---- what a walk asks for
 
@@ -83,16 +88,14 @@ pub record ComparedIs (o : List ℕ) (at : ℕ) (xs : List ℕ) (r : Compared) :
 
 -- ---- an array that stands in one piece
 
--- the trees of a literal's array, which stand in the query from p to e; or what a path of at most one label gives
-pub record Operand (literal : Bool) (q : List ℕ) (p e : ℕ) (s : List ℕ) (a b : ℕ) : Type 0 where
-  pub array : literal ≡ true → Holds treesBytes q p e
-  pub path : literal ≡ false → Walk treeBytes q p e 0 s a b
-  pub short : literal ≡ false → stepCount p e ≤ 1
+-- whether one was found
+abbrev pub isPart : labels-found.Found → Bool
+isPart (labels-variants.Part f t) = true
+isPart labels-variants.Missing = false
 
--- r is that array's bytes
-pub record OperandIs (literal : Bool) (q : List ℕ) (p e : ℕ) (s : List ℕ) (a b : ℕ) (r : List ℕ) : Type 0 where
-  pub array : literal ≡ true → (ts : Trees) → Is q p e (treesBytes ts) → r ≡ treesBytes ts
-  pub path : literal ≡ false → Tells q p e 0 s a b (λ x. r ≡ givenBytes x)
+-- r is the bytes of whatever trees stand in s from f to t
+abbrev pub OperandIs : (s : List ℕ) (f t : ℕ) → List ℕ → Type 0
+OperandIs s f t r = (ts : Trees) → Is s f t (treesBytes ts) → r ≡ treesBytes ts
 
 -- ---- two applications
 

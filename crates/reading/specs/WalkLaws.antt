@@ -58,7 +58,7 @@ under-found q p i s a b r g z f t h =
     }
 
 -- ---- a tree: the end of the path, or one step
-step-apply : (q : List ℕ) (p e i : ℕ) → i < stepCount p e → (path : Path) (t : Tree) → Is q p e path
+pub step-apply : (q : List ℕ) (p e i : ℕ) → i < stepCount p e → (path : Path) (t : Tree) → Is q p e path
     → apply (drop i path) t ≡ (find (stepAt q p i) (labels t) >>= over (apply (drop (i + 1) path)))
 unfolding apply
 step-apply q p e i n path t g =

@@ -1,21 +1,26 @@
 //! Equality of what paths give, compared where it stands: absent equals only absent, the empty array is not absent, and the
 //! order and the number of the trees count. Nothing is copied.
-//! Where one of the two stands in one piece (a literal, or a path of at most one label) the other is walked once beside it,
-//! after the walk that finds it present. Two longer paths cost a walk of each of the trees for every tree that they give.
+//! Two that stand in one piece (literals, and what paths of at most one label give) are compared there. Where only one of the
+//! two does, the other is walked once beside it, after the walk that finds it present. Two longer paths cost a walk of each
+//! of the trees for every tree that they give.
 //! Of `<'a>`: a part that is returned from one of two slices needs one lifetime for both, and so do those who call for it.
 ghost use mathlib.Core.Path.{_≡_};
 ghost use Rattle.format.specs.Bytes.{treeBytes};
 ghost use Rattle.format.specs.Compare.{sameBytes};
 ghost use Rattle.format.specs.Stand.{treesBytes, Holds};
-ghost use Rattle.reading.specs.Walk.{givenBytes, Walk, Tells, TellsBoth, SameNth, EqualsLiteral, EqualPaths};
+ghost use Prim.Native.Nat.{_≤_};
+ghost use Rattle.query.specs.Steps.{stepCount};
+ghost use Rattle.reading.specs.Walk.{givenBytes, isArray, isPart, Walk, Tells, TellsBoth, SameNth, EqualsLiteral, EqualPaths};
 use crate::path::Compared;
 use crate::path::Element;
 use crate::path::count;
 use crate::path::matches_at;
 use crate::path::nth;
 use crate::path::operand;
+use crate::path::piece;
 use crate::path::present;
 use format::compare::same_bytes;
+use format::labels::Found;
 use query::path::steps;
 
 /// Whether o is the bytes of the trees that the path gives of the tree from a to b, no fewer and no more.
@@ -28,6 +33,34 @@ fn gives(q: &[u8], p: usize, e: usize, s: &[u8], a: usize, b: usize, o: &[u8]) -
         return false;
     };
     n == o.len()
+}
+
+/// Whether an application that stands in one piece, or is absent, is present.
+fn is_part(found: Found) -> bool
+    ensures { λ r. ⌜ r ≡ isPart found ⌝ }
+{
+    match found {
+        Found::Part(f, t) => true,
+        Found::Missing => false,
+    }
+}
+
+/// Whether the path gives of the tree from a to b the array o.
+fn path_is(q: &[u8], p: usize, e: usize, s: &[u8], a: usize, b: usize, o: &[u8]) -> bool
+    requires { ⌜ Walk treeBytes (now q) p e 0 (now s) a b ⌝ }
+    ensures { λ r. ⌜ Tells (now (q .entry)) p e 0 (now (s .entry)) a b (λ x. r ≡ isArray x (now (o .entry))) ⌝ }
+{
+    if steps(p, e) <= 1 {
+        let found = piece(q, p, e, s, a, b);
+        let Found::Part(f, t) = found else {
+            return false;
+        };
+        return same_bytes(&s[f..t], o);
+    }
+    if !present(q, p, e, 0, s, a, b) {
+        return false;
+    }
+    gives(q, p, e, s, a, b, o)
 }
 
 /// Whether the path gives of the tree from a to b the literal's array, whose trees stand in the query from lit to end.
@@ -44,11 +77,8 @@ pub fn path_equals_literal<'a>(
     requires { ⌜ Walk treeBytes (now q) p e 0 (now s) a b × Holds treesBytes (now q) lit end ⌝ }
     ensures { λ r. ⌜ EqualsLiteral (now (q .entry)) p e lit end (now (s .entry)) a b r ⌝ }
 {
-    if !present(q, p, e, 0, s, a, b) {
-        return false;
-    }
-    let o = operand(q, s, true, lit, end, a, b);
-    gives(q, p, e, s, a, b, o)
+    let o = operand(q, s, true, lit, end);
+    path_is(q, p, e, s, a, b, o)
 }
 
 /// Whether tree j of what two paths give is the same, if both give so many.
@@ -111,9 +141,88 @@ fn same_elements(
     true
 }
 
-/// Whether two paths give the same trees. If one of them has at most one label, what it gives stands in one piece, and the
-/// other is walked once beside it.
-fn same_arrays<'a>(
+/// Whether two applications are equal that are both of paths of at most one label: each stands in one piece.
+fn same_pieces(
+    q: &[u8],
+    p: usize,
+    e: usize,
+    p2: usize,
+    e2: usize,
+    s: &[u8],
+    a: usize,
+    b: usize,
+    s2: &[u8],
+    a2: usize,
+    b2: usize,
+) -> bool
+    requires { ⌜ Walk treeBytes (now q) p e 0 (now s) a b × (stepCount p e ≤ 1) × Walk treeBytes (now q) p2 e2 0 (now s2) a2 b2 × (stepCount p2 e2 ≤ 1) ⌝ }
+    ensures { λ r. ⌜ EqualPaths (now (q .entry)) p e p2 e2 (now (s .entry)) a b (now (s2 .entry)) a2 b2 r ⌝ }
+{
+    let one = piece(q, p, e, s, a, b);
+    let other = piece(q, p2, e2, s2, a2, b2);
+    let Found::Part(g, u) = other else {
+        return !is_part(one);
+    };
+    let Found::Part(f, t) = one else {
+        return false;
+    };
+    same_bytes(&s[f..t], &s2[g..u])
+}
+
+/// Whether two applications are equal, of which the second is that of a path of at most one label: what it gives stands in
+/// one piece, and the other is looked at beside it.
+fn same_as_piece<'a>(
+    q: &'a [u8],
+    p: usize,
+    e: usize,
+    p2: usize,
+    e2: usize,
+    s: &'a [u8],
+    a: usize,
+    b: usize,
+    s2: &'a [u8],
+    a2: usize,
+    b2: usize,
+) -> bool
+    requires { ⌜ Walk treeBytes (now q) p e 0 (now s) a b × Walk treeBytes (now q) p2 e2 0 (now s2) a2 b2 × (stepCount p2 e2 ≤ 1) ⌝ }
+    ensures { λ r. ⌜ EqualPaths (now (q .entry)) p e p2 e2 (now (s .entry)) a b (now (s2 .entry)) a2 b2 r ⌝ }
+{
+    let found = piece(q, p2, e2, s2, a2, b2);
+    let Found::Part(f, t) = found else {
+        return !present(q, p, e, 0, s, a, b);
+    };
+    let o = operand(q, s2, false, f, t);
+    path_is(q, p, e, s, a, b, o)
+}
+
+/// Whether two applications are equal, by walks of both trees.
+fn same_walks(
+    q: &[u8],
+    p: usize,
+    e: usize,
+    p2: usize,
+    e2: usize,
+    s: &[u8],
+    a: usize,
+    b: usize,
+    s2: &[u8],
+    a2: usize,
+    b2: usize,
+) -> bool
+    requires { ⌜ Walk treeBytes (now q) p e 0 (now s) a b × Walk treeBytes (now q) p2 e2 0 (now s2) a2 b2 ⌝ }
+    ensures { λ r. ⌜ EqualPaths (now (q .entry)) p e p2 e2 (now (s .entry)) a b (now (s2 .entry)) a2 b2 r ⌝ }
+{
+    if !present(q, p, e, 0, s, a, b) {
+        return !present(q, p2, e2, 0, s2, a2, b2);
+    }
+    if !present(q, p2, e2, 0, s2, a2, b2) {
+        return false;
+    }
+    same_elements(q, p, e, p2, e2, s, a, b, s2, a2, b2)
+}
+
+/// Whether two applications are equal, of which one or both are of longer paths.
+fn same_longer<'a>(
     q: &'a [u8],
     p: usize,
     e: usize,
@@ -127,17 +236,15 @@ fn same_arrays<'a>(
     b2: usize,
 ) -> bool
     requires { ⌜ Walk treeBytes (now q) p e 0 (now s) a b × Walk treeBytes (now q) p2 e2 0 (now s2) a2 b2 ⌝ }
-    ensures { λ r. ⌜ TellsBoth (now (q .entry)) p e p2 e2 (now (s .entry)) a b (now (s2 .entry)) a2 b2 (λ x y. r ≡ sameBytes (givenBytes x) (givenBytes y)) ⌝ }
+    ensures { λ r. ⌜ EqualPaths (now (q .entry)) p e p2 e2 (now (s .entry)) a b (now (s2 .entry)) a2 b2 r ⌝ }
 {
     if steps(p2, e2) <= 1 {
-        let o = operand(q, s2, false, p2, e2, a2, b2);
-        return gives(q, p, e, s, a, b, o);
+        return same_as_piece(q, p, e, p2, e2, s, a, b, s2, a2, b2);
     }
     if steps(p, e) <= 1 {
-        let o = operand(q, s, false, p, e, a, b);
-        return gives(q, p2, e2, s2, a2, b2, o);
+        return same_as_piece(q, p2, e2, p, e, s2, a2, b2, s, a, b);
     }
-    same_elements(q, p, e, p2, e2, s, a, b, s2, a2, b2)
+    same_walks(q, p, e, p2, e2, s, a, b, s2, a2, b2)
 }
 
 /// Whether two applications are equal: the path at p of the tree in s from a to b, and the path at p2 of the tree in s2 from
@@ -158,11 +265,10 @@ pub fn same_paths<'a>(
     requires { ⌜ Walk treeBytes (now q) p e 0 (now s) a b × Walk treeBytes (now q) p2 e2 0 (now s2) a2 b2 ⌝ }
     ensures { λ r. ⌜ EqualPaths (now (q .entry)) p e p2 e2 (now (s .entry)) a b (now (s2 .entry)) a2 b2 r ⌝ }
 {
-    if !present(q, p, e, 0, s, a, b) {
-        return !present(q, p2, e2, 0, s2, a2, b2);
+    if steps(p2, e2) <= 1 {
+        if steps(p, e) <= 1 {
+            return same_pieces(q, p, e, p2, e2, s, a, b, s2, a2, b2);
+        }
     }
-    if !present(q, p2, e2, 0, s2, a2, b2) {
-        return false;
-    }
-    same_arrays(q, p, e, p2, e2, s, a, b, s2, a2, b2)
+    same_longer(q, p, e, p2, e2, s, a, b, s2, a2, b2)
 }

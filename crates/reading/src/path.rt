@@ -3,14 +3,15 @@
 //! A path goes step by step: a label is looked for among the labels of one tree, and the trees under it follow each other
 //! by their heads. No tree is entered twice, so that a call costs at most one walk of the tree, whatever the path's length.
 ghost use mathlib.Core.Path.{_≡_};
+ghost use mathlib.Core.Bool.{cond};
 ghost use Prim.Native.Nat.{_+_, _-_, _≤_, _<_};
 ghost use lib.ListN.{length};
 ghost use lib.Seq.{slice};
 ghost use Rattle.format.specs.Bytes.{treeBytes};
-ghost use Rattle.format.specs.Stand.{treesBytes, Holds};
+ghost use Rattle.format.specs.Stand.{treesBytes, Holds, FoundIs};
 ghost use Rattle.query.specs.Steps.{stepCount};
 ghost use Rattle.stages.specs.Paths as paths;
-ghost use Rattle.reading.specs.Walk.{given, givenBytes, Walk, Tells, TellsOver, Under, ElementIs, ComparedIs, Operand, OperandIs};
+ghost use Rattle.reading.specs.Walk.{given, givenBytes, Walk, Tells, TellsOver, Under, ElementIs, ComparedIs, OperandIs};
 use format::area::field_end;
 use format::compare::same_bytes;
 use format::labels::Found;
@@ -227,37 +228,25 @@ fn matches_over(
     Compared::At(n)
 }
 
-/// What a path of at most one label gives of the tree from a to b: it stands there in one piece, so it is a part of the tree.
-fn reached<'q, 's>(q: &'q [u8], s: &'s [u8], p: usize, e: usize, a: usize, b: usize) -> &'s [u8]
+/// Where what a path of at most one label gives of the tree from a to b stands, in one piece; or that it is absent.
+pub fn piece(q: &[u8], p: usize, e: usize, s: &[u8], a: usize, b: usize) -> Found
     requires { ⌜ Walk treeBytes (now q) p e 0 (now s) a b × (stepCount p e ≤ 1) ⌝ }
-    ensures { λ r. ⌜ Tells (now (q .entry)) p e 0 (now (s .entry)) a b (λ x. now r ≡ givenBytes x) ⌝ }
+    ensures { λ r. ⌜ Tells (now (q .entry)) p e 0 (now (s .entry)) a b (λ x. FoundIs (now (s .entry)) a b x r) ⌝ }
 {
     if steps(p, e) == 0 {
-        return &s[a..b];
+        return Found::Part(a, b);
     }
-    let found = under(q, p, 0, s, a, b);
-    let Found::Part(f, t) = found else {
-        return &s[..0];
-    };
-    &s[f..t]
+    under(q, p, 0, s, a, b)
 }
 
-/// The array that stands in one piece: for a literal the part of the query from p to e, where its trees stand; for a path of
-/// at most one label, whose content stands there, the part of the tree from a to b that it gives.
-pub fn operand<'a>(
-    q: &'a [u8],
-    s: &'a [u8],
-    literal: bool,
-    p: usize,
-    e: usize,
-    a: usize,
-    b: usize,
-) -> &'a [u8]
-    requires { ⌜ Operand literal (now q) p e (now s) a b ⌝ }
-    ensures { λ r. ⌜ OperandIs literal (now (q .entry)) p e (now (s .entry)) a b (now r) ⌝ }
+/// The array that stands in one piece from f to t: a literal's in the query, or what a path of at most one label gives, which
+/// is a part of the tree.
+pub fn operand<'a>(q: &'a [u8], s: &'a [u8], literal: bool, f: usize, t: usize) -> &'a [u8]
+    requires { ⌜ Holds treesBytes (cond literal (now q) (now s)) f t ⌝ }
+    ensures { λ r. ⌜ OperandIs (cond literal (now (q .entry)) (now (s .entry))) f t (now r) ⌝ }
 {
     if literal {
-        return &q[p..e];
+        return &q[f..t];
     }
-    reached(q, s, p, e, a, b)
+    &s[f..t]
 }

@@ -9,19 +9,20 @@ use Rattle.format.specs.Options.{_>>=_}
 use Rattle.format.specs.OptionLaws.{leb-yes, some-equal}
 use Rattle.format.specs.Lists.{filter, all, gather, each}
 use Rattle.format.specs.Limits.{treeMax, depthMax}
-use Rattle.format.specs.Tree.{Tree, v}
+use Rattle.format.specs.Tree.{Tree, node, Trees, ε, _▹_, Labels, bare, label, list, trees, labels, v, find, put}
 use Rattle.format.specs.Size.{size, depth, depthL, sizeL, rootSize, fits}
-use Rattle.format.specs.Within.{Allowed, AllowedA}
+use Rattle.format.specs.Within.{Ok, OkL, Allowed, AllowedA}
+use Rattle.format.specs.SizeLaws.{trees-list}
 use Rattle.query.specs.Query.{Path, Criterion, Item, Stage, match, unwind, project, lookup}
 use Rattle.query.specs.Rules.{OkS}
 use Rattle.stages.specs.Criteria.{holds}
 use Rattle.stages.specs.Merge.{merge, build}
-use Rattle.stages.specs.Unwind.{unwound}
+use Rattle.stages.specs.Unwind.{holding, unwound}
 use Rattle.stages.specs.Project.{projected}
 use Rattle.stages.specs.Lookup.{looked}
 use Rattle.stages.specs.Stages.{outcome, leaving, isGroup, going, large, after, step, stages}
 use Rattle.stages.specs.KeepLaws.{stages-allowed}
-use Rattle.writing.specs.UnwoundLaws.{unwound-leaves}
+use Rattle.writing.specs.UnwoundLaws.{put-first, put-later, found-cases, unwound-leaves, unwound-one}
 
 pub fits-of : {x : Tree} → Allowed depthMax x → fits x ≡ true
 unfolding fits
@@ -39,6 +40,19 @@ step-match us c {x} h = go (holds c x)
 pub step-unwind : (us : List Tree) (p : Path) {x : Tree} → Allowed depthMax x → step us (unwind p) (going (x ∷ [])) ≡ going (unwound p x)
 unfolding step isGroup outcome gather after
 step-unwind us p {x} h = ap (λ l. after (leaving (some l))) (append-nil (unwound p x)) ∙ ap after (unwound-leaves p x h)
+
+-- what stands under a label of rising labels, put back, changes nothing
+put-same : (k : ℕ) (a : Trees) (ls : Labels) (m : ℕ) → OkL ls m → find k ls ≡ some (list a) → put k a ls ≡ ls
+unfolding find
+put-same k a bare m o e = let z : _≡_ {A = ℕ} 0 1 = cc in absurd (omega arith)
+put-same k a (label j c ls) m o e = found-cases k (list a) j c ls m o e
+    (λ q z. put-first k j a c ls q ∙ ap (λ i. label i a ls) q ∙ ap (λ b. label j b ls) (sym (trees-list a) ∙ ap trees (sym z) ∙ trees-list c))
+    (λ q z. put-later k j a c ls q ∙ ap (label j c) (put-same k a ls j (o .3) z))
+
+-- so a tree whose label holds one tree alone is its own outcome
+pub unwound-alone : (k : ℕ) (t u : Tree) → Ok t → find k (labels t) ≡ some (u ∷ []) → unwound (k ∷ []) t ≡ t ∷ []
+unfolding holding
+unwound-alone k (node r ls) u o e = unwound-one k (node r ls) (u ∷ []) e ∙ ap (λ l. node r l ∷ []) (put-same k (u ▹ ε) ls 0 (o .1) e)
 
 -- ---- a tree that is built fits, or nothing is built
 pub build-fits : (s : Tree) (ts : List Tree) {y : Tree} → fits s ≡ true → build s ts ≡ some y → fits y ≡ true

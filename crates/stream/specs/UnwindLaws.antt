@@ -2,6 +2,7 @@
 use mathlib.Core.Path.{_≡_, refl, sym, ap, _∙_, subst}
 use mathlib.Core.List.{List, [], _∷_, map}
 use mathlib.Core.Bool.{true, false}
+use mathlib.Core.Option.{some}
 use Prim.Native.Nat.{ℕ, _+_, _-_, _≤_, _<_}
 use native.Mathlib.Omega.{arith}
 use lib.ListN.{length, take, drop, getD}
@@ -14,13 +15,13 @@ use Rattle.format.specs.Lists.{all}
 use Rattle.format.specs.Limits.{treeMax, depthMax, pathMax, labelMax}
 use Rattle.format.specs.OptionLaws.{T-and}
 use Rattle.format.specs.ListLaws.{All-drop}
-use Rattle.format.specs.Tree.{Tree, Trees, list, labels, isLabel}
+use Rattle.format.specs.Tree.{Tree, Trees, _▹_, list, labels, isLabel, find}
 use Rattle.format.specs.Bytes.{treeBytes}
 use Rattle.format.specs.Within.{Allowed, AllowedA}
 use Rattle.format.specs.Area.{Is, Wrote, fieldEnd}
 use Rattle.format.specs.AreaLaws.{is-keep, wrote-keep, written, told}
 use Rattle.format.specs.SizeLaws.{length-tree}
-use Rattle.format.specs.Stand.{treesBytes, Holds, Finds}
+use Rattle.format.specs.Stand.{treesBytes, Holds}
 use Rattle.format.specs.StandLaws.{tree-parts, trees-parts, trees-none, trees-places, holds-first}
 use Rattle.query.specs.Query.{Path, Stage, unwind}
 use Rattle.query.specs.Rules.{OkP}
@@ -31,9 +32,9 @@ use Rattle.query.specs.StepLaws.{steps-are, step-is}
 use Rattle.stages.specs.Unwind.{holding, unwound}
 use Rattle.stages.specs.Stages.{going, step, stages}
 use Rattle.writing.specs.Writers.{Along, Ready}
-use Rattle.writing.specs.Outcomes.{soundBytes, Counts, Has, PutsOutcome, ElementReady, PutsElement}
-use Rattle.writing.specs.OutcomeLaws.{outcome-fits}
-use Rattle.writing.specs.UnwoundLaws.{unwound-allowed, unwound-none, unwound-one, left-next, left-none, elements-next}
+use Rattle.writing.specs.Outcomes.{soundBytes, FindsEntry, Counts, Has, PutsOutcome, ElementReady, PutsElement}
+use Rattle.writing.specs.OutcomeLaws.{entry-of, entry-places, entry-kept, outcome-fits}
+use Rattle.writing.specs.UnwoundLaws.{labels-ok, unwound-allowed, unwound-none, unwound-one, left-next, left-none, elements-next}
 use Rattle.stream.specs.declared.sink.Sink.{Sink}
 use Rattle.stream.specs.declared.sink.Sink.the-variants.{Large}
 use Rattle.stream.specs.Stretch.{before}
@@ -42,7 +43,7 @@ use Rattle.stream.specs.Sink.{isLarge, ends, Feeds}
 use Rattle.stream.specs.SinkLaws.{feeds-none, feeds-lent, feeds-more, feeds-stop, feeds-open}
 use Rattle.stream.specs.Tails.{tail, lent}
 use Rattle.stream.specs.TailLaws.{tail-length, tail-is, lent-length, lent-front, ends-beyond}
-use Rattle.stream.specs.StageLaws.{step-unwind}
+use Rattle.stream.specs.StageLaws.{step-unwind, unwound-alone}
 use Rattle.stream.specs.Feed.{Planned, Front, FeedReady, FeedPost, PartReady, PartPost}
 use Rattle.stream.specs.FeedLaws.{front-fits}
 use Rattle.stream.specs.Unwinding.{Leaves, Unwinding, Parted, LeftFrom, LeftUnder, Under}
@@ -234,24 +235,33 @@ module _ {t : List ℕ} {te : ℕ} {q : List ℕ} {c ce m e : ℕ} {j : List ℕ
   pub one-byte : k < 256
   one-byte = label-byte (subst OkP (one-label (h .part .value) (h .part .value-is)) (h .part .allowed))
 
-  module _ {l : ℕ} {r : Found} (z : l ≡ fieldEnd t 3) (f : Finds t l te k r) where
+  module _ {l : ℕ} {r : Found} (z : l ≡ fieldEnd t 3) (f : FindsEntry t l te k r) where
     pub elements-missing : r ≡ Missing → PartPost OkP pathBytes unwind t t te q c ce m e j s s
     elements-missing y = unwound-nothing h (λ a x o i fr.
-        ap (λ p. unwound p x) (one-label a i) ∙ unwound-none k [] x (f (labels x) (tree-parts x z (fr .tree-is) .labels-is) .missing y))
+        ap (λ p. unwound p x) (one-label a i) ∙ unwound-none k [] x (f (labels x) 0 (labels-ok x (fr .allowed .ok)) (tree-parts x z (fr .tree-is) .labels-is) .missing y))
 
     pub elements-under : {a b : ℕ} → r ≡ Part a b → Under t te q c ce k a b
     elements-under {a} {b} y = record {
       byte = one-byte;
-      within = f (labels (h .next .tree)) (tree-parts (h .next .tree) z (h .next .front .tree-is) .labels-is) .part a b y .within;
+      within = entry-places (entry-of z f y (h .next .tree) (h .next .front .allowed .ok) (h .next .front .tree-is)) .2;
       path-is = one-label;
-      array-is = λ x i. let w = f (labels x) (tree-parts x z i .labels-is) .part a b y in (w .array, w .same, w .array-is);
+      entry = entry-of z f y;
     }
 
 module _ {t₀ : List ℕ} {te : ℕ} {q : List ℕ} {c ce m e : ℕ} {j : List ℕ} {s₀ : Sink} (h : PartReady OkP pathBytes t₀ te q c ce m e j s₀) {k f u : ℕ} (under : Under t₀ te q c ce k f u) where
   pub elements-begin : Unwinding (LeftUnder k t₀ f u) t₀ te q c ce m e j s₀ t₀ s₀
   elements-begin = unwinding-begin h (LeftUnder k t₀ f u) (λ a x o i fr.
-      let y = under .array-is x (fr .tree-is) in
-      record { array = y .0; array-is = y .2; same = ap (λ p. unwound p x) (under .path-is a i) ∙ unwound-one k x (list (y .0)) (y .1); allowed = unwound-allowed a x o (fr .allowed) })
+      let y = under .entry x (fr .allowed .ok) (fr .tree-is) in
+      record { array = y .array; array-is = y .array-is; same = ap (λ p. unwound p x) (under .path-is a i) ∙ unwound-one k x (list (y .array)) (y .same); allowed = unwound-allowed a x o (fr .allowed) })
+
+  -- of one tree alone: the tree at the front went on
+  pub elements-alone : {y : ℕ} {v : List ℕ} {r : Sink} → (f ≡ u → ⊥) → y ≡ fieldEnd t₀ f → y ≡ u → FeedPost t₀ v te q m e j s₀ r → PartPost OkP pathBytes unwind t₀ v te q c ce m e j s₀ r
+  elements-alone {v = v} {r} n z w p a ss us x o i pl fr =
+      let b = under .entry x (fr .allowed .ok) (fr .tree-is) in
+      let d = trees-parts (b .array) z n (b .array-is) in
+      let one : find k (labels x) ≡ some (d .first ∷ []) = b .same ∙ ap (λ l. some (list l)) (d .same ∙ ap (λ l. d .first ▹ l) (trees-none (d .rest) w (d .rest-is))) in
+      let same = ap (λ p. unwound p x) (under .path-is a i) ∙ unwound-alone k x (d .first) (fr .allowed .ok) one in
+      subst (λ y. Feeds t₀ s₀ v r (stages us (before ss) y)) (sym (step-unwind us a (fr .allowed) ∙ ap going same)) (p ss us x pl fr)
 
   module _ {d : ℕ} {t : List ℕ} {s : Sink} (g : Unwinding (LeftUnder k t₀ d u) t₀ te q c ce m e j s₀ t s) where
     pub elements-end : d ≡ u → PartPost OkP pathBytes unwind t₀ t te q c ce m e j s₀ s
@@ -268,20 +278,18 @@ module _ {t₀ : List ℕ} {te : ℕ} {q : List ℕ} {c ce m e : ℕ} {j : List 
     element-places n z = trees-places left-trees n z
 
     module _ {y : ℕ} (n : d ≡ u → ⊥) (z : y ≡ fieldEnd t d) where
-      pub element-ready : ElementReady t k 0 te d y treeMax 4096
+      pub element-ready : ElementReady t k 0 te f u d y treeMax 4096
       element-ready =
           let x = h .next .tree in
           let fr = h .next .front in
           let b = front-fits fr in
           let w : 30036 ≤ length t = omega (arith, h .next .room, g .same) in
           let p = element-places n z in
-          let a = under .array-is x (fr .tree-is) in
           record {
             tree = x;
             ok = fr .allowed .ok;
             tree-is = front-now h g b (fr .tree-is);
-            array = list (a .0);
-            under = a .1;
+            entry = λ x ok i. entry-kept (under .entry x ok (front-then h g b i)) (g .kept) b;
             byte = under .byte;
             element = holds-first left-trees n z;
             below = (b, omega (arith, p, under .within, b));

@@ -2,11 +2,10 @@
 -- for the outcomes that are left is right for all.
 use mathlib.Core.Path.{_≡_}
 use mathlib.Core.List.{List, [], _∷_, map}
-use mathlib.Core.Option.{some}
 use Prim.Native.Nat.{ℕ, _≤_, _<_}
 use lib.ListN.{length, take, drop}
 use Rattle.format.specs.Limits.{treeMax, depthMax}
-use Rattle.format.specs.Tree.{Tree, Trees, list, labels, find}
+use Rattle.format.specs.Tree.{Tree, Trees, list}
 use Rattle.format.specs.Bytes.{treeBytes}
 use Rattle.format.specs.Within.{Allowed, AllowedA}
 use Rattle.format.specs.Area.{Is}
@@ -15,6 +14,7 @@ use Rattle.query.specs.Query.{Path, Stage}
 use Rattle.query.specs.Rules.{OkP}
 use Rattle.stages.specs.Unwind.{holding, unwound}
 use Rattle.stages.specs.Stages.{going, stages}
+use Rattle.writing.specs.Outcomes.{EntryAt}
 use Rattle.stream.specs.declared.sink.Sink.{Sink}
 use Rattle.stream.specs.Stretch.{before}
 use Rattle.stream.specs.Sink.{Open, Feeds}
@@ -59,9 +59,10 @@ pub record LeftUnder (k : ℕ) (t : List ℕ) (f u : ℕ) (a : Path) (x : Tree) 
   pub same : ys ≡ map (holding k x) (list array)
   pub allowed : AllowedA ys
 
--- the label k, which is a byte, and its array in t from f to u, whatever path of one label and whatever tree stand there
+-- the label k, which is a byte, and its entry in t, with its array from f to u, whatever path of one label and whatever
+-- tree stand there
 pub record Under (t : List ℕ) (te : ℕ) (q : List ℕ) (c ce k f u : ℕ) : Type 0 where
   pub byte : k < 256
   pub within : u ≤ te
   pub path-is : (a : Path) → Is q c ce a → a ≡ k ∷ []
-  pub array-is : (x : Tree) → Is t 0 te (treeBytes x) → (array : Trees) × (find k (labels x) ≡ some (list array)) × Is t f u (treesBytes array)
+  pub entry : EntryAt t k 0 te f u

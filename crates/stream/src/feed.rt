@@ -10,13 +10,13 @@ ghost use Rattle.query.specs.Rules.{OkP, NestedC};
 ghost use Rattle.query.specs.Steps.{stepCount};
 ghost use Rattle.query.specs.Places.{pathBytes, criterionBytes, itemsBytes};
 ghost use Rattle.stream.specs.Feed.{FeedReady, FeedPost, OkItems, PartReady, PartPost, JoinReady, JoinPost};
+ghost use Rattle.stream.specs.Unwinding.{Under};
 use crate::sink::Sink;
 use crate::sink::collect;
 use crate::sink::is_large;
 use format::area::Out;
 use format::area::field_end;
 use format::labels::Found;
-use format::labels::find;
 use format::limits::Limits;
 use making::lookup::lookup;
 use making::project::project;
@@ -25,6 +25,7 @@ use query::path::steps;
 use query::stage::StageAt;
 use query::stage::stage_at;
 use reading::criteria::holds;
+use writing::unwind::find_entry;
 use writing::unwind::outcomes;
 use writing::unwind::put_element;
 use writing::unwind::put_outcome;
@@ -142,7 +143,8 @@ fn feed_outcomes<'a>(
     sink
 }
 
-/// The same by a path of one label: the outcome for each tree of the array under it, as the array is walked.
+/// The same by a path of one label. An array of no tree under it gives no outcome. Where one tree alone stands there, the
+/// tree at the front is its own only outcome, and goes on as it lies.
 fn feed_elements<'a>(
     t: &mut [u8],
     te: usize,
@@ -159,15 +161,43 @@ fn feed_elements<'a>(
 {
     let k = step_at(q, c, 0);
     let l = field_end(t, 3);
-    let found = find(t, l, te, k);
+    let found = find_entry(t, l, te, k);
     let Found::Part(f, u) = found else {
         return s;
     };
+    if f == u {
+        return s;
+    }
+    if field_end(t, f) != u {
+        return feed_each(t, te, q, c, ce, k, f, u, m, e, j, s);
+    }
+    feed(t, te, q, m, e, j, s)
+}
+
+/// The outcome for each tree of the array that stands from f to u under the path's label k, as the array is walked. The
+/// path itself, from c to ce, is not read again.
+fn feed_each<'a>(
+    t: &mut [u8],
+    te: usize,
+    q: &'a [u8],
+    c: usize,
+    ce: usize,
+    k: u16,
+    f: usize,
+    u: usize,
+    m: usize,
+    e: usize,
+    j: &'a [u8],
+    s: Sink,
+) -> Sink
+    requires { ⌜ PartReady OkP pathBytes (now t) te (now q) c ce m e (now j) s × Under (now t) te (now q) c ce k f u ⌝ }
+    ensures { λ r. ⌜ PartPost OkP pathBytes unwind (now (t .entry)) (now (t .exit)) te (now (q .entry)) c ce m e (now (j .entry)) s r ⌝ }
+{
     let mut sink = s;
     let mut x = f;
     while x != u {
         let xe = field_end(t, x);
-        let out = put_element(t, k, 0, te, x, xe, Limits::TREE, 2 * Limits::TREE);
+        let out = put_element(t, k, 0, te, f, u, x, xe, Limits::TREE, 2 * Limits::TREE);
         let Out::At(o) = out else {
             return Sink::Large;
         };

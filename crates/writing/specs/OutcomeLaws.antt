@@ -30,7 +30,7 @@ use Rattle.writing.specs.declared.unwind.Nth.the-variants.{Written, Past
 use Rattle.stages.specs.Unwind.{holding, unwound}
 use Rattle.writing.specs.Writers.{Along, Ready}
 use Rattle.writing.specs.Place.{entryOf, Behind, Headed}
-use Rattle.writing.specs.Outcomes.{soundBytes, soundsBytes, EntryIs, EntryFound, FindsEntry, Counts, CountsEach, NthIs, PutsNth, PutsNthEach, Has, PutsOutcome, Around, Surrounds, ElementReady, PutsElement}
+use Rattle.writing.specs.Outcomes.{soundBytes, soundsBytes, EntryIs, EntryFound, FindsEntry, TreeEntry, EntryAt, Counts, CountsEach, NthIs, PutsNth, PutsNthEach, Has, PutsOutcome, Around, Surrounds, ElementReady, PutsElement}
 use Rattle.writing.specs.WriterLaws.{rest-of, rest-none}
 use Rattle.writing.specs.UnwoundLaws.{find-first, find-later, put-first, put-later, find-above, found-ok, labels-ok, length-map, unwound-none, unwound-some, unwound-count, getD-map, outcome-under}
 
@@ -209,24 +209,47 @@ holding-bytes k t x front back h =
     ∙ ap (λ l. fieldBytes (2, l)) (sym (append-assoc (rootBytes (root t)) front (entryOf k (treeBytes x) ++ back)))
 
 module _ {w : List ℕ} {a b l k : ℕ} {o : Found} {f u : ℕ} (m : l ≡ fieldEnd w (a + 3)) (h : FindsEntry w l b k o) (z : o ≡ Part f u) where
-  entry-of : (t : Tree) → Ok t → Is w a b (treeBytes t) → EntryIs w l b k (labels t) f u
-  entry-of t ok j = h (labels t) 0 (labels-ok t ok) (tree-parts t m j .labels-is) .part f u z
-
-  pub entry-places : (t : Tree) → Ok t → Is w a b (treeBytes t) → (a + 13 ≤ f) × (f ≤ u) × (u ≤ b)
-  unfolding entry-of
-  entry-places t ok j =
-      let y = entry-of t ok j in
+  pub entry-of : EntryAt w k a b f u
+  entry-of t ok j =
       let p = tree-parts t m j in
-      (omega (arith, y .heads, p .after), omega (arith, y .array-is .ends), omega (arith, y .back-is .ends))
+      let y = h (labels t) 0 (labels-ok t ok) (p .labels-is) .part f u z in
+      record {
+        array = y .array;
+        front = rootBytes (root t) ++ y .front;
+        back = y .back;
+        same = y .same;
+        front-is = is-join (p .root-is) (y .front-is);
+        array-is = y .array-is;
+        back-is = y .back-is;
+        heads = omega (arith, y .heads, p .after);
+        holding-is = λ x. holding-bytes k t x (y .front) (y .back) (y .put-is);
+      }
+
+module _ {w : List ℕ} {k a b f u : ℕ} {t : Tree} (y : TreeEntry w k a b f u t) where
+  pub entry-places : (a + 13 ≤ f) × (f ≤ u) × (u ≤ b)
+  entry-places = (y .heads, omega (arith, y .array-is .ends), omega (arith, y .back-is .ends))
+
+  -- it stays where the bytes up to the tree's end do
+  pub entry-kept : {v : List ℕ} {d : ℕ} → take d v ≡ take d w → b ≤ d → TreeEntry v k a b f u t
+  entry-kept {d = d} q l =
+      let p = entry-places in
+      record {
+        array = y .array;
+        front = y .front;
+        back = y .back;
+        same = y .same;
+        front-is = is-keep (y .front-is) {d = d} q (omega (arith, p));
+        array-is = is-keep (y .array-is) {d = d} q (omega (arith, p));
+        back-is = is-keep (y .back-is) q l;
+        heads = y .heads;
+        holding-is = y .holding-is;
+      }
 
   -- what was put under the label, surrounded
   pub outcome-around : {w1 w2 : List ℕ} {d stop : ℕ} {r q : Out} → stop ≤ length w → Surrounds w1 w2 k a b f u d stop r q
-      → (t : Tree) → Ok t → Is w a b (treeBytes t) → (x : Tree) → Wrote w w1 (d + (f - a)) stop (treeBytes x) r → Wrote w w2 d stop (treeBytes (holding k t x)) q
-  outcome-around {w1} {w2} {d} {stop} {r} {q} s g t ok j x c =
-      let y = entry-of t ok j in
-      let p = tree-parts t m j in
-      subst (λ n. Wrote w w2 d stop n q) (sym (holding-bytes k t x (y .front) (y .back) (y .put-is)))
-      (g w (rootBytes (root t) ++ y .front) (y .back) (treeBytes x) s (is-join (p .root-is) (y .front-is)) (y .back-is) c)
+      → (x : Tree) → Wrote w w1 (d + (f - a)) stop (treeBytes x) r → Wrote w w2 d stop (treeBytes (holding k t x)) q
+  outcome-around {w2 = w2} {d} {stop} {q = q} s g x c =
+      subst (λ n. Wrote w w2 d stop n q) (sym (y .holding-is x)) (g w (y .front) (y .back) (treeBytes x) s (y .front-is) (y .back-is) c)
 
 -- ---- the j-th of a list
 nth-past : {w : List ℕ} {d stop : ℕ} (us : List Tree) {j c : ℕ} → length us + c ≡ j → NthIs w w d stop us j (Past c)
@@ -293,7 +316,7 @@ module _ {w q : List ℕ} {p e i a b d stop : ℕ} (g : Ready soundBytes w q p e
 
   module _ {l k : ℕ} {o : Found} {f u : ℕ} (m : l ≡ fieldEnd w (a + 3)) (h : FindsEntry w l b k o) (z : o ≡ Part f u) where
     pub sound-places : (a + 13 ≤ f) × (f ≤ u) × (u ≤ b)
-    sound-places = entry-places m h z (g .source .value .tree) (g .source .value .ok) (g .source .value-is)
+    sound-places = entry-places (entry-of m h z (g .source .value .tree) (g .source .value .ok) (g .source .value-is))
 
     pub sound-array : i < stepCount p e → Ready soundsBytes w q p e (i + 1) f u (d + (f - a)) stop
     unfolding entry-of
@@ -362,7 +385,7 @@ module _ {w : List ℕ} (q : List ℕ) (p e i : ℕ) {a b l k : ℕ} {o : Found}
       let v = h1 path (y .array) g (found-sound k t (y .array) ok (y .same)) (y .array-is) .written r iw in
       subst (λ vs. NthIs w w2 d stop vs j (Written r2)) (sym c)
       (nth-written (map (holding k t) us) (omega (arith, v .0, length-map (holding k t) us))
-      (λ b. subst (λ y. Wrote w w2 d stop (treeBytes y) r2) (sym (getD-map (holding k t) us j t b (v .0))) (outcome-around m h z sl sr t ok x (getD us j t) (v .1 t))))
+      (λ b. subst (λ y. Wrote w w2 d stop (treeBytes y) r2) (sym (getD-map (holding k t) us j t b (v .0))) (outcome-around y sl sr (getD us j t) (v .1 t))))
 
 pub nth-end : {w x q : List ℕ} {p e : ℕ} (i : ℕ) {a b j d stop : ℕ} {r : Nth} → i ≡ stepCount p e → ((t : Tree) → Is w a b (treeBytes t) → NthIs w x d stop (t ∷ []) j r)
     → PutsNth w x q p e i a b j d stop r
@@ -450,40 +473,28 @@ module _ {w x q : List ℕ} {p e : ℕ} (i : ℕ) {a b j d stop : ℕ} {one : Nt
   outcome-past y z path t g ok k = absurd (omega (arith, y path t g ok k, h path t g ok k .past _ z .0))
 
 -- ---- one element
-module _ {w : List ℕ} {k a b x xe d stop : ℕ} (g : ElementReady w k a b x xe d stop) where
-  pub element-tree : Holds treeBytes w a b
-  element-tree = record { value = g .tree; value-is = g .tree-is }
+module _ {w : List ℕ} {k a b f u x xe d stop : ℕ} (g : ElementReady w k a b f u x xe d stop) where
+  pub element-places : (a + 13 ≤ f) × (f ≤ u) × (u ≤ b)
+  element-places = entry-places (g .entry (g .tree) (g .ok) (g .tree-is))
 
-  module _ {l : ℕ} {o : Found} (m : l ≡ fieldEnd w (a + 3)) (h : FindsEntry w l b k o) where
-    -- the label is there
-    pub element-missing : {P : Type 0} → o ≡ Missing → P
-    element-missing z =
-        let y = h (labels (g .tree)) 0 (labels-ok (g .tree) (g .ok)) (tree-parts (g .tree) m (g .tree-is) .labels-is) .missing z in
-        let c : _≡_ {A = ℕ} 0 1 = cc (y, g .under) in
-        absurd (omega arith)
+  module _ {w1 : List ℕ} {r : Out} (c : Wrote w w1 (d + (f - a)) stop (take (xe - x) (drop x w)) r) where
+    pub element-around : length w1 ≡ length w → Around w1 k a b f u d stop r
+    element-around lw =
+        let p = element-places in
+        record {
+          byte = g .byte;
+          heads = p .0;
+          order = p .1;
+          within = p .2;
+          below = g .below .0;
+          room = omega (arith, p, g .room);
+          inside = omega (arith, g .inside);
+          small = omega (arith, g .small);
+          ends = λ e q. let y = c .fits e q in (omega (arith, y .ends), y .room);
+        }
 
-    module _ {f u : ℕ} (z : o ≡ Part f u) where
-      pub element-places : (a + 13 ≤ f) × (f ≤ u) × (u ≤ b)
-      element-places = entry-places m h z (g .tree) (g .ok) (g .tree-is)
-
-      module _ {w1 : List ℕ} {r : Out} (c : Wrote w w1 (d + (f - a)) stop (take (xe - x) (drop x w)) r) where
-        pub element-around : length w1 ≡ length w → Around w1 k a b f u d stop r
-        element-around lw =
-            let p = element-places in
-            record {
-              byte = g .byte;
-              heads = p .0;
-              order = p .1;
-              within = p .2;
-              below = g .below .0;
-              room = omega (arith, p, g .room);
-              inside = omega (arith, g .inside);
-              small = omega (arith, g .small);
-              ends = λ e q. let y = c .fits e q in (omega (arith, y .ends), y .room);
-            }
-
-        pub element-put : {w2 : List ℕ} {r2 : Out} → Surrounds w1 w2 k a b f u d stop r r2 → PutsElement w w2 k a b x xe d stop r2
-        element-put s t e ok j y = outcome-around m h z (g .inside) s t ok j e (is-copied y c)
+    pub element-put : {w2 : List ℕ} {r2 : Out} → Surrounds w1 w2 k a b f u d stop r r2 → PutsElement w w2 k a b x xe d stop r2
+    element-put s t e ok j y = outcome-around (g .entry t ok j) (g .inside) s e (is-copied y c)
 
 -- ---- where there is room for any tree
 -- there is room for the outcomes of an allowed tree

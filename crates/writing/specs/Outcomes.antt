@@ -59,6 +59,22 @@ pub record EntryFound (s : List ℕ) (p e k : ℕ) (ls : Labels) (r : Found) : T
 abbrev pub FindsEntry : (s : List ℕ) (p e k : ℕ) → Found → Type 0
 FindsEntry s p e k r = (ls : Labels) (m : ℕ) → OkL ls m → Is s p e (labelsBytes ls) → EntryFound s p e k ls r
 
+-- the same of the well formed tree x, which stands from a to b: before the entry stand its root and the labels before
+pub record TreeEntry (w : List ℕ) (k a b f t : ℕ) (x : Tree) : Type 0 where
+  pub array : Trees
+  pub front : List ℕ
+  pub back : List ℕ
+  pub same : find k (labels x) ≡ some (list array)
+  pub front-is : Is w (a + 3) (f - 7) front
+  pub array-is : Is w f t (treesBytes array)
+  pub back-is : Is w t b back
+  pub heads : a + 13 ≤ f
+  pub holding-is : (u : Tree) → treeBytes (holding k x u) ≡ fieldBytes (2, front ++ (entryOf k (treeBytes u) ++ back))
+
+-- whatever well formed tree stands there
+abbrev pub EntryAt : (w : List ℕ) (k a b f t : ℕ) → Type 0
+EntryAt w k a b f t = (x : Tree) → Ok x → Is w a b (treeBytes x) → TreeEntry w k a b f t x
+
 -- ---- how many outcomes
 abbrev pub Counts : (q : List ℕ) (p e i : ℕ) (w : List ℕ) (a b n : ℕ) → Type 0
 Counts q p e i w a b n = (path : Path) (t : Tree) → Is q p e path → Is w a b (treeBytes t) → n ≡ length (unwound (drop i path) t)
@@ -111,13 +127,13 @@ Surrounds w v k a b f t d stop r o = (u front back c : List ℕ) → stop ≤ le
     → Wrote u w (d + (f - a)) stop c r → Wrote u v d stop (fieldBytes (2, front ++ (entryOf k c ++ back))) o
 
 -- ---- one element
--- a well formed tree that has the label k stands from a to b, and a tree from x to xe, both below d, where there is room
-pub record ElementReady (w : List ℕ) (k a b x xe d stop : ℕ) : Type 0 where
+-- a well formed tree stands from a to b, with the array of its label k from f to t, and a tree from x to xe, both below d,
+-- where there is room
+pub record ElementReady (w : List ℕ) (k a b f t x xe d stop : ℕ) : Type 0 where
   pub tree : Tree
   pub ok : Ok tree
   pub tree-is : Is w a b (treeBytes tree)
-  pub array : List Tree
-  pub under : find k (labels tree) ≡ some array
+  pub entry : EntryAt w k a b f t
   pub byte : k < 256
   pub element : Holds treeBytes w x xe
   pub below : (b ≤ d) × (xe ≤ d)

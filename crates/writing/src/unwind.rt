@@ -59,7 +59,7 @@ fn outcomes_each(q: &[u8], p: usize, e: usize, i: usize, w: &[u8], a: usize, b: 
 
 /// Finds the label k among the labels that stand from p to e. `labels::find` answers the same; here the contract also says
 /// what stands before and behind the entry, which an outcome keeps.
-fn find_entry(s: &[u8], p: usize, e: usize, k: u16) -> Found
+pub fn find_entry(s: &[u8], p: usize, e: usize, k: u16) -> Found
     requires { ⌜ Holds labelsBytes (now s) p e ⌝ }
     ensures { λ r. ⌜ FindsEntry (now (s .entry)) p e k r ⌝ }
 {
@@ -199,26 +199,24 @@ pub fn put_outcome(
     r
 }
 
-/// Writes at d the tree from a to b with just the tree from x to xe under its label k. For a path of one label this is the
-/// outcome for that element: a caller walks the array with `field_end`, so that no outcome starts from the array's start.
+/// Writes at d the tree from a to b with just the tree from x to xe under its label k, whose array stands from f to t. For
+/// a path of one label this is the outcome for that element: a caller finds the entry once, and walks the array with
+/// `field_end`, so that no outcome starts from the tree's start.
 pub fn put_element(
     w: &mut [u8],
     k: u16,
     a: usize,
     b: usize,
+    f: usize,
+    t: usize,
     x: usize,
     xe: usize,
     d: usize,
     stop: usize,
 ) -> Out
-    requires { ⌜ ElementReady (now w) k a b x xe d stop ⌝ }
+    requires { ⌜ ElementReady (now w) k a b f t x xe d stop ⌝ }
     ensures { λ r. ⌜ PutsElement (now (w .entry)) (now (w .exit)) k a b x xe d stop r ⌝ }
 {
-    let l = field_end(w, a + 3);
-    let found = find_entry(w, l, b, k);
-    let Found::Part(f, t) = found else {
-        return Out::TooLarge;
-    };
     let one = copy(w, x, xe, d + (f - a), stop);
     surround(w, k, a, b, f, t, d, stop, one)
 }

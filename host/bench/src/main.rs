@@ -1,92 +1,147 @@
-//! The engine against a hand-written implementation of the same run, on the same bytes, and against the floor: copying the
-//! input to the result and clearing the work area. Side by side in one run, as ratios, with medians.
+//! The engine against a hand-written implementation of the same run, on the same bytes, and against the
+//! floor: copying the input to the result and clearing the work area.
+//!
+//! - `bench` measures and prints the tables.
+//! - `bench --write DIRECTORY` measures, writes performance.svg there, and sets the tables into the
+//!   PERFORMANCE.md that is there.
+//! - `bench profile KIND SIZE CALLS` only calls the engine, so many times on one case, for a profiler.
 
 mod cases;
+mod forms;
+mod measure;
 mod opponent;
+mod page;
+mod paper;
+mod plot;
 
 use cases::{Case, KINDS};
+use measure::Measured;
+use std::error::Error;
 use std::hint::black_box;
-use std::time::Instant;
+use std::path::Path;
+use std::process::ExitCode;
 use tquery::Engine;
 
+/// The sizes of cases, n: about how many bytes of arrays.
 const SIZES: [usize; 5] = [1024, 2048, 4096, 8192, 16384];
-const ROUNDS: usize = 101;
 
 /// The engine's answer: the length, or the number of the refusal.
 fn engine(c: &Case, work: &mut [u8], result: &mut [u8]) -> Result<usize, u32> {
     Engine::new(work).run(&c.query, &c.input, &c.joined, result).map_err(|r| r.number())
 }
 
+/// What every run does at least.
 fn floor(c: &Case, work: &mut [u8], result: &mut [u8]) {
-    let n = c.input.len().min(result.len());
-    result[..n].copy_from_slice(&c.input[..n]);
+    result[..c.input.len()].copy_from_slice(&c.input);
     work.fill(0);
-}
-
-/// The median time of a call, in nanoseconds.
-fn median(mut f: impl FnMut()) -> f64 {
-    let mut times: Vec<f64> = (0..ROUNDS)
-        .map(|_| {
-            let from = Instant::now();
-            f();
-            from.elapsed().as_nanos() as f64
-        })
-        .collect();
-    times.sort_by(f64::total_cmp);
-    times[ROUNDS / 2]
 }
 
 /// Whether engine and opponent give the same result. A case that is refused is no case to measure.
 fn agree(c: &Case) -> bool {
-    let (mut work, mut result) = (vec![0u8; 65536], vec![0u8; 16384]);
-    let (mut work2, mut result2) = (vec![0u8; 65536], vec![0u8; 16384]);
-    let a = engine(c, &mut work, &mut result);
-    let b = opponent::run(&c.query, &c.input, &c.joined, &mut work2, &mut result2);
-    a.is_ok() && a == b && result == result2
+    let run = |call: fn(&Case, &mut [u8], &mut [u8]) -> Result<usize, u32>| {
+        let (mut work, mut result) = (vec![7; 65536], vec![7; 16384]);
+        (call(c, &mut work, &mut result), work, result)
+    };
+    let given = run(engine);
+    given.0.is_ok() && given == run(|c, w, r| opponent::run(&c.query, &c.input, &c.joined, w, r))
 }
 
-/// Engine, opponent and floor on one case.
-fn measure(c: &Case) -> (f64, f64, f64) {
-    assert!(agree(c), "the two give different results");
-    let (mut work, mut result) = (vec![0u8; 65536], vec![0u8; 16384]);
-    let (mut work2, mut result2) = (vec![0u8; 65536], vec![0u8; 16384]);
-    let e = median(|| {
-        let _ = black_box(engine(black_box(c), &mut work, &mut result));
-    });
-    let o = median(|| {
-        let _ = black_box(opponent::run(black_box(&c.query), &c.input, &c.joined, &mut work2, &mut result2));
-    });
-    let f = median(|| {
-        floor(black_box(c), &mut work, &mut result);
-        black_box((&work, &result));
-    });
-    (e, o, f)
+/// What all cases gave.
+struct Figures {
+    /// Kind by kind, size by size.
+    kinds: Vec<Vec<Measured>>,
+    rounds: usize,
+    /// The machine's load before the run.
+    load: String,
 }
 
-fn main() {
-    println!("| Case | Bytes | Engine, µs | Engine / opponent | Engine / floor | Growth |");
-    println!("|---|---:|---:|---:|---:|---:|");
-    for kind in KINDS {
-        let mut before = 0.0;
-        for size in SIZES {
-            let c = (kind.make)(size);
-            let (e, o, f) = measure(&c);
-            let growth = if before > 0.0 { format!("{:.2}", e / before) } else { String::new() };
-            println!("| {} | {} | {:.1} | {:.2} | {:.1} | {} |", kind.name, c.input.len(), e / 1000.0, e / o, e / f, growth);
-            before = e;
-        }
+fn measure_all() -> Result<Figures, String> {
+    let load = page::load();
+    let kinds: Vec<Vec<Case>> = KINDS.iter().map(|kind| SIZES.map(kind.make).into()).collect();
+    if !kinds.iter().flatten().all(agree) {
+        return Err("engine and opponent differ on a case, or refuse it: the tests say which".into());
     }
+    let (kinds, rounds) = measure::measure(&kinds);
+    Ok(Figures { kinds, rounds, load })
+}
+
+fn write(directory: &Path) -> Result<(), Box<dyn Error>> {
+    let text = directory.join("PERFORMANCE.md");
+    let before = std::fs::read_to_string(&text)?;
+    let figures = measure_all()?;
+    std::fs::write(&text, page::with_tables(&before, &page::tables(&figures))?)?;
+    std::fs::write(directory.join("performance.svg"), plot::plot(&figures.kinds))?;
+    Ok(())
+}
+
+fn profile(kind: &str, size: &str, calls: &str) -> Result<(), Box<dyn Error>> {
+    let names = || KINDS.map(|k| k.name).join("; ");
+    let kind = KINDS.iter().find(|k| k.name == kind).ok_or_else(|| format!("the kinds are: {}", names()))?;
+    let c = (kind.make)(size.parse()?);
+    let (mut work, mut result) = (vec![0; 65536], vec![0; 16384]);
+    for _ in 0..calls.parse::<usize>()? {
+        let _ = black_box(engine(black_box(&c), &mut work, &mut result));
+    }
+    Ok(())
+}
+
+fn main() -> ExitCode {
+    let words: Vec<String> = std::env::args().skip(1).collect();
+    let words: Vec<&str> = words.iter().map(String::as_str).collect();
+    let done = match words[..] {
+        [] => measure_all().map(|figures| print!("{}", page::tables(&figures))).map_err(Box::from),
+        ["--write", directory] => write(Path::new(directory)),
+        ["profile", kind, size, calls] => profile(kind, size, calls),
+        _ => Err("usage: bench [--write DIRECTORY | profile KIND SIZE CALLS]".into()),
+    };
+    if let Err(e) = done {
+        eprintln!("{e}");
+        return ExitCode::FAILURE;
+    }
+    ExitCode::SUCCESS
 }
 
 #[cfg(test)]
 mod tests {
     use super::*;
+    use reference::generate::{Cases, LONGEST_WORK};
+    use reference::run::Work;
+
+    /// Number, length, and every byte of the result and the work area, on random cases of which many are
+    /// refused.
+    #[test]
+    fn opponent_answers_as_the_reference() {
+        let noise: Vec<u8> = (0..LONGEST_WORK).map(|i| (i * 167 + 13) as u8).collect();
+        for (i, (c, verdict)) in Cases::new(11).take(5_000).enumerate() {
+            let mut work = noise[..c.work_length].to_vec();
+            let mut result = noise[..c.result_length].to_vec();
+            let expected = verdict.over(&result);
+            let answer = opponent::run(&c.query, &c.input, &c.joined, &mut work, &mut result);
+            let (number, length) = answer.map_or_else(|number| (number, 0), |length| (0, length));
+            assert_eq!((number, length), (expected.number.into(), expected.length), "case {i}");
+            assert!(result == expected.result, "the result area of case {i}");
+            let kept = work == noise[..c.work_length];
+            let zero = work.iter().all(|byte| *byte == 0);
+            assert!(if expected.work == Work::Zero { zero } else { kept }, "the work area of case {i}");
+        }
+    }
 
     #[test]
     fn engine_and_opponent_agree_on_every_case() {
-        for kind in KINDS {
+        for kind in &KINDS {
             for size in SIZES {
                 assert!(agree(&(kind.make)(size)), "{} at {size} bytes", kind.name);
+            }
+        }
+    }
+
+    /// A case's input has the size that it is named by. Of one kind it is shorter, and the kind says why.
+    #[test]
+    fn cases_have_their_size() {
+        for kind in KINDS.iter().filter(|k| k.name != "lookup, unique keys") {
+            for size in SIZES {
+                let n = (kind.make)(size).input.len();
+                assert!((size * 9 / 10..=size).contains(&n), "{} at {size} bytes has {n}", kind.name);
             }
         }
     }

@@ -1,21 +1,26 @@
 -- Made from Proof.ans by answers.py, which overwrites this file: edit Proof.ans.
 use native.Mathlib.Omega.{arith}
 use borrow.Author.Needs.{needs}
-use mathlib.Core.Path.{_≡_, refl, sym, _∙_}
-use Prim.Native.Nat.{_-_, _≤_}
+use mathlib.Core.Path.{_≡_, sym, subst}
+use Prim.Native.Nat.{_+_, _-_, _≤_}
 use lib.ListN.{length, drop}
-use Rattle.format.specs.Compare.{sameBytes}
-use Rattle.format.specs.CompareLaws.{same-lengths, same-end, same-next, same-other}
+use Rattle.format.specs.CompareLaws.{
+  equal-same,
+  same-lengths,
+  same-other,
+  same-back,
+  same-start,
+}
 use Rattle.format.proofs.compare.same_bytes.Statement.{statement}
 use Rattle.format.proofs.compare.same_bytes.Tie as tie
 use Rattle.format.proofs.compare.same_bytes.Reads as reads
 use Rattle.format.proofs.compare.same_bytes.Lts as lts
 
 abbrev Inv-loop : tie.InvT-loop
-Inv-loop a b i₀ i = (i ≤ length a) × (sameBytes a b ≡ sameBytes (drop i a) (drop i b))
+Inv-loop a b i₀ i = (i ≤ length a) × (length a ≡ length b) × (drop i a ≡ drop i b)
 
 abbrev μ-loop : tie.MeasureT-loop
-μ-loop a b i₀ i = length a - i
+μ-loop a b i₀ i = i
 
 returns : tie.Need-returns Inv-loop μ-loop
 returns c =
@@ -23,7 +28,15 @@ returns c =
     (λ q. omega (arith, c .if1 .taken)))
 
 loop-holds : tie.Need-loop-holds Inv-loop μ-loop
-loop-holds c = (omega arith, refl)
+loop-holds c = (
+  omega arith,
+  omega (arith, c .if1 .left),
+  same-start (c .before .args .a .now)
+      (c .before .args .b .now) (omega (arith, c .if1 .left)),
+)
+
+sub-j : tie.Need-sub-j Inv-loop μ-loop
+sub-j c = search needs
 
 shared-slice-read-if2 : tie.Need-shared-slice-read-if2 Inv-loop μ-loop
 shared-slice-read-if2 c = search needs
@@ -33,30 +46,47 @@ shared-slice-read-if2-2 c = search needs
 
 returns-2 : tie.Need-returns-2 Inv-loop μ-loop
 returns-2 c =
-    sym (c .before .before .before .before .loop .inv .1 ∙ same-other
-    (c .before .before .before .before .before .before .args .a .now)
+    sym (same-other (c .before .before .before .before .before .before .args .a .now)
     (c .before .before .before .before .before .before .args .b .now)
-    (c .before .before .before .before .loop .i) (omega arith) (omega arith) (c .if2 .taken))
-
-add-i : tie.Need-add-i Inv-loop μ-loop
-add-i c = search needs
+    (c .before .before .before .before .loop .i - 1) (c .if2 .taken))
 
 loop-less : tie.Need-loop-less Inv-loop μ-loop
 loop-less c = search needs
 
 loop-again : tie.Need-loop-again Inv-loop μ-loop
-loop-again c = (
-  omega arith,
-  c .before .before .before .before .loop .inv .1 ∙ same-next
-      (c .before .before .before .before .before .before .args .a .now)
-      (c .before .before .before .before .before .before .args .b .now)
-      (c .before .before .before .before .loop .i) (omega arith) (omega arith) (c .if2 .left),
-)
+loop-again c =
+    let z : c .before .before .before .before .loop .i ≡
+    (c .before .before .before .before .loop .i - 1) + 1 = omega
+    (arith, c .before .before .before .loop-test .taken) in (
+      omega (arith, c .before .before .before .before .loop .inv .0),
+      c .before .before .before .before .loop .inv .1,
+      same-back (c .before .before .before .before .before .before .args .a .now)
+          (c .before .before .before .before .before .before .args .b .now)
+          (c .before .before .before .before .loop .i - 1)
+          (omega (
+            arith,
+            c .before .before .before .before .loop .inv .0,
+            c .before .before .before .loop-test .taken,
+          ))
+          (omega (
+            arith,
+            c .before .before .before .before .loop .inv .0,
+            c .before .before .before .before .loop .inv .1,
+            c .before .before .before .loop-test .taken,
+          ))
+          (c .if2 .left)
+          (subst (λ n. drop n (c .before .before .before .before .before .before .args .a .now) ≡ drop n
+          (c .before .before .before .before .before .before .args .b .now)) z
+          (c .before .before .before .before .loop .inv .2)),
+    )
 
 returns-3 : tie.Need-returns-3 Inv-loop μ-loop
 returns-3 c =
-    sym (c .before .loop .inv .1 ∙ same-end (c .before .before .before .args .a .now)
-    (c .before .before .before .args .b .now) (c .before .loop .i) (omega arith) (omega arith))
+    let z : c .before .loop .i ≡ 0 = omega (arith, c .loop-test .left) in
+    sym (equal-same (c .before .before .before .args .a .now)
+    (c .before .before .before .args .b .now)
+    (subst (λ n. drop n (c .before .before .before .args .a .now) ≡ drop n
+    (c .before .before .before .args .b .now)) z (c .before .loop .inv .2)))
 
 pub same-bytes-spec : {M : Type 1} → statement M
 same-bytes-spec =
@@ -66,10 +96,10 @@ same-bytes-spec =
     μ-loop
     returns
     loop-holds
+    sub-j
     shared-slice-read-if2
     shared-slice-read-if2-2
     returns-2
-    add-i
     loop-less
     loop-again
     returns-3)

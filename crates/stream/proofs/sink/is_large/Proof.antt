@@ -1,5 +1,4 @@
 -- Made from Proof.ans by answers.py, which overwrites this file: edit Proof.ans.
-use mathlib.Core.Path.{_≡_, refl, sym, ap, _∙_}
 use Rattle.stream.specs.Sink.{isLarge}
 use borrow.Author.Needs.{needs}
 use Rattle.stream.proofs.sink.is_large.Statement.{statement}

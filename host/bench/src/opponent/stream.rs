@@ -1,0 +1,200 @@
+//! Trees through the stages of a stretch, one at a time, and the groups between stretches.
+
+use super::bytes::{trees, ARRAY, VOID};
+use super::index::{Index, Lists};
+use super::query::{Pair, Stage};
+use super::read::{append, holds};
+use super::write::{place, unwind, write_item, Build};
+use super::Refused;
+
+/// What leaves a stretch, one tree behind another. That it is too long is only noted: a later tree may be too
+/// large.
+struct Sink<'a> {
+    out: &'a mut [u8],
+    used: usize,
+    over: bool,
+}
+
+impl Sink<'_> {
+    fn push(&mut self, tree: &[u8]) {
+        match self.out.get_mut(self.used..self.used + tree.len()) {
+            Some(room) => {
+                room.copy_from_slice(tree);
+                self.used += tree.len();
+            }
+            None => self.over = true,
+        }
+    }
+}
+
+/// The joined trees by key, made when the first tree comes.
+struct Partners<'a> {
+    index: Index,
+    lists: Lists<'a>,
+}
+
+impl<'a> Partners<'a> {
+    fn new(path: &[u8], joined: &'a [u8]) -> Partners<'a> {
+        let n = trees(joined).count();
+        let (mut index, mut lists) = (Index::new(n), Lists::new(n));
+        for t in trees(joined) {
+            lists.push(index.number(std::iter::once(path), t).0, t);
+        }
+        Partners { index, lists }
+    }
+
+    /// Appends the joined trees that match.
+    fn append(&mut self, path: &[u8], tree: &[u8], out: &mut Vec<u8>) {
+        if let Some(number) = self.index.known(path, tree) {
+            self.lists.list(number).for_each(|t| out.extend_from_slice(t));
+        }
+    }
+}
+
+/// What a stage works with.
+struct Room<'a> {
+    build: Build,
+    partners: Option<Partners<'a>>,
+}
+
+/// The stages of a stretch, behind its group.
+struct Stretch<'s, 'a> {
+    stages: &'s [Stage<'s>],
+    rooms: Vec<Room<'a>>,
+    joined: &'a [u8],
+}
+
+impl<'s, 'a> Stretch<'s, 'a> {
+    fn new(stages: &'s [Stage<'s>], joined: &'a [u8]) -> Stretch<'s, 'a> {
+        let rooms = stages.iter().map(|_| Room { build: Build::new(), partners: None }).collect();
+        Stretch { stages, rooms, joined }
+    }
+
+    fn feed(&mut self, tree: &[u8], sink: &mut Sink) -> Result<(), Refused> {
+        feed(self.stages, &mut self.rooms, self.joined, tree, sink)
+    }
+}
+
+/// One tree through the stages: what leaves the last of them goes into the sink.
+fn feed<'a>(
+    stages: &[Stage],
+    rooms: &mut [Room<'a>],
+    joined: &'a [u8],
+    tree: &[u8],
+    sink: &mut Sink,
+) -> Result<(), Refused> {
+    let ([stage, stages @ ..], [room, rooms @ ..]) = (stages, rooms) else {
+        sink.push(tree);
+        return Ok(());
+    };
+    match stage {
+        Stage::Match(c) if holds(c, tree) => feed(stages, rooms, joined, tree, sink),
+        Stage::Match(_) => Ok(()),
+        Stage::Unwind(path) => {
+            unwind(path, tree, room.build.scratch(), &mut |t| feed(stages, rooms, joined, t, sink))
+        }
+        Stage::Project(items) => {
+            room.build.start(&VOID);
+            for item in items {
+                room.build.add(|out| write_item(item, tree, out))?;
+            }
+            feed(stages, rooms, joined, room.build.tree(), sink)
+        }
+        Stage::Lookup { tree: path, joined: other, target } => {
+            let partners = room.partners.get_or_insert_with(|| Partners::new(other, joined));
+            room.build.start(tree);
+            room.build.add(|out| {
+                place(target, out, |out| {
+                    partners.append(path, tree, out);
+                    true
+                })
+            })?;
+            feed(stages, rooms, joined, room.build.tree(), sink)
+        }
+        // a stretch ends before a group
+        Stage::Group { .. } => Ok(()),
+    }
+}
+
+/// The classes of a group in their order: of each its subset and the number of its list.
+fn classes<'a>(grouping: &[Pair], array: &'a [u8]) -> (Vec<(usize, usize)>, Lists<'a>) {
+    let n = trees(array).count();
+    let (mut index, mut lists, mut found) = (Index::new(n), Lists::new(n), Vec::new());
+    for t in trees(array) {
+        let (number, subset) = index.number(grouping.iter().map(|pair| pair.source), t);
+        if number == found.len() {
+            found.push((subset, number));
+        }
+        lists.push(number, t);
+    }
+    // by subset, and then in order of first appearance
+    found.sort_unstable();
+    (found, lists)
+}
+
+/// Groups the trees of an array and feeds what that gives to the stretch behind the group.
+fn group(
+    aggregates: &[Pair],
+    grouping: &[Pair],
+    array: &[u8],
+    stretch: &mut Stretch,
+    sink: &mut Sink,
+) -> Result<(), Refused> {
+    let (found, lists) = classes(grouping, array);
+    let mut build = Build::new();
+    for (_, number) in found {
+        build.start(&VOID);
+        for pair in aggregates {
+            let write = |out: &mut Vec<u8>| {
+                lists.list(number).fold(false, |any, t| append(pair.source, t, out) | any)
+            };
+            build.add(|out| place(pair.target, out, write))?;
+        }
+        let Some(first) = lists.list(number).next() else { continue };
+        for pair in grouping {
+            // a source outside the subset is absent, and places nothing
+            build.add(|out| place(pair.target, out, |out| append(pair.source, first, out)))?;
+        }
+        stretch.feed(build.tree(), sink)?;
+    }
+    Ok(())
+}
+
+/// Performs a stretch over an array's trees, into `out`: how many bytes of it they take, if it holds them.
+fn perform(stages: &[Stage], array: &[u8], joined: &[u8], out: &mut [u8]) -> Result<Option<usize>, Refused> {
+    let mut sink = Sink { out, used: 0, over: false };
+    if let [Stage::Group { aggregates, grouping }, stages @ ..] = stages {
+        group(aggregates, grouping, array, &mut Stretch::new(stages, joined), &mut sink)?;
+    } else {
+        let mut stretch = Stretch::new(stages, joined);
+        trees(array).try_for_each(|t| stretch.feed(t, &mut sink))?;
+    }
+    Ok((!sink.over).then_some(sink.used))
+}
+
+/// Where the stretch ends that begins the stages.
+fn stretch_end(stages: &[Stage]) -> usize {
+    let group = stages.iter().skip(1).position(|s| matches!(s, Stage::Group { .. }));
+    group.map_or(stages.len(), |at| at + 1)
+}
+
+/// Runs the stages over the input's trees and writes what they give to `out`: how many bytes of it that
+/// takes.
+pub fn run(mut stages: &[Stage], input: &[u8], joined: &[u8], out: &mut [u8]) -> Result<usize, Refused> {
+    // the array that enters a group, and the one that leaves its stretch; the input enters from where it
+    // stands
+    let (mut array, mut next): (Vec<u8>, Vec<u8>) = (Vec::new(), Vec::new());
+    let mut entering = None;
+    loop {
+        let (stretch, later) = stages.split_at(stretch_end(stages));
+        let trees = entering.map_or(input, |n| &array[..n]);
+        if later.is_empty() {
+            return perform(stretch, trees, joined, out)?.ok_or(10);
+        }
+        next.resize(ARRAY - 3, 0);
+        let used = perform(stretch, trees, joined, &mut next)?.ok_or(9u32)?;
+        std::mem::swap(&mut array, &mut next);
+        entering = Some(used);
+        stages = later;
+    }
+}

@@ -1,0 +1,215 @@
+/*
+ * Engines with a fault, to see that the fuzz target finds it. The linker puts
+ * these calls (--wrap) between the target and the engine; the variable FAULT
+ * of the environment says which fault the calls have, by its place in the
+ * tables.
+ */
+#include "tquery.h"
+
+#include <stdio.h>
+#include <stdlib.h>
+#include <string.h>
+
+/* What a run was lent, a byte of its work area before it, and the engine's answer taken apart. */
+struct run {
+    const uint8_t *query, *input, *joined;
+    size_t query_length, input_length, joined_length;
+    uint8_t *work, *result;
+    size_t work_length, result_length;
+    uint8_t work_before;
+    unsigned number;
+    size_t length;
+};
+
+static volatile uint8_t seen;
+
+static void past_result(struct run *run) { run->result[run->result_length] = 0; }
+static void before_result(struct run *run) { run->result[-1] = 0; }
+static void past_work(struct run *run) { run->work[run->work_length] = 0; }
+static void before_work(struct run *run) { run->work[-1] = 0; }
+static void past_query(struct run *run) { seen = run->query[run->query_length]; }
+static void before_joined(struct run *run) { seen = run->joined[-1]; }
+
+static void writes_input(struct run *run)
+{
+    if (run->input_length > 20) {
+        ((volatile uint8_t *)run->input)[20] = run->input[20];
+    }
+}
+
+static void leaves_work(struct run *run)
+{
+    if (run->work_length > 65536) {
+        run->work[65536] = 1;
+    }
+}
+
+static void clears_short_work(struct run *run)
+{
+    if (run->number == 1 && run->work_length > 0) {
+        run->work[run->work_length - 1] = 0;
+    }
+}
+
+static void answers_11(struct run *run) { run->number = run->number == 8 ? 11 : run->number; }
+static void refuses_with_length(struct run *run) { run->length += run->number == 9; }
+static void answers_5_for_4(struct run *run) { run->number = run->number == 4 ? 5 : run->number; }
+static void accepts_malformed(struct run *run) { run->number = run->number == 7 ? 10 : run->number; }
+static void refuses_admitted(struct run *run) { run->number = run->number == 9 ? 7 : run->number; }
+
+static void longer_than_area(struct run *run)
+{
+    if (run->number == 0 && run->length == run->result_length) {
+        run->length++;
+    }
+}
+
+static void touches_rest(struct run *run)
+{
+    if (run->number == 0 && run->length < run->result_length) {
+        run->result[run->result_length - 1] = 0;
+    }
+}
+
+static void no_array(struct run *run)
+{
+    if (run->number == 0 && run->length > 100) {
+        run->result[0] = 2;
+    }
+}
+
+static void touches_refused(struct run *run)
+{
+    if (run->number == 7 && run->result_length > 0) {
+        run->result[run->result_length - 1] = 0;
+    }
+}
+
+static void leaves_result(struct run *run)
+{
+    if (run->number == 9 && run->result_length > 0) {
+        run->result[run->result_length / 2] = 1;
+    }
+}
+
+static void number_by_work(struct run *run)
+{
+    if (run->number == 8 && run->work_before > 100) {
+        run->number = 10;
+    }
+}
+
+/* The byte is the first of a text at the first tree's root: any value leaves an array. */
+static void result_by_work(struct run *run)
+{
+    if (run->number == 0 && run->length > 20 && run->result[6] == 6 && run->result[8] > 0) {
+        run->result[9] = run->work_before;
+    }
+}
+
+static const struct {
+    const char *words;
+    void (*fault)(struct run *run);
+} of_run[] = {
+    {"writes past the result area", past_result},
+    {"writes before the result area", before_result},
+    {"writes past the work area", past_work},
+    {"writes before the work area", before_work},
+    {"reads past the query", past_query},
+    {"reads before the joined array", before_joined},
+    {"writes the input, what stands there", writes_input},
+    {"leaves a byte of a work area over 65,536", leaves_work},
+    {"changes the work area at 1", clears_short_work},
+    {"answers 11 for 8", answers_11},
+    {"answers 9 with a length", refuses_with_length},
+    {"answers 5 for 4", answers_5_for_4},
+    {"answers 10 for 7", accepts_malformed},
+    {"answers 7 for 9", refuses_admitted},
+    {"answers a length over the result area", longer_than_area},
+    {"changes a byte beyond the result", touches_rest},
+    {"gives a result that is no array", no_array},
+    {"changes the result area at 7", touches_refused},
+    {"leaves a byte of the result area at 9", leaves_result},
+    {"answers by what the work area held", number_by_work},
+    {"gives a result by what the work area held", result_by_work},
+};
+
+#define OF_RUN (int)(sizeof of_run / sizeof *of_run)
+
+static const char *const of_checks[] = {
+    "check_array reads past the array",
+    "check_array answers with a length",
+    "check_array answers 6",
+    "check_array answers by the array's place",
+    "check_query answers 2 for 3",
+    "check_query accepts what is malformed",
+};
+
+enum { READS_PAST = OF_RUN, WITH_LENGTH, ANSWERS_6, BY_PLACE, QUERY_2, QUERY_0 };
+
+static int fault(void)
+{
+    static int number = -1;
+    if (number < 0) {
+        number = atoi(getenv("FAULT"));
+        fprintf(stderr, "fault: %s\n", number < OF_RUN ? of_run[number].words : of_checks[number - OF_RUN]);
+    }
+    return number;
+}
+
+uint64_t __real_tquery_run(const uint8_t *query, size_t query_length,
+                           const uint8_t *input, size_t input_length,
+                           const uint8_t *joined, size_t joined_length,
+                           uint8_t *work, size_t work_length,
+                           uint8_t *result, size_t result_length);
+uint64_t __real_tquery_check_array(const uint8_t *bytes, size_t length);
+uint64_t __real_tquery_check_query(const uint8_t *bytes, size_t length);
+
+uint64_t __wrap_tquery_run(const uint8_t *query, size_t query_length,
+                           const uint8_t *input, size_t input_length,
+                           const uint8_t *joined, size_t joined_length,
+                           uint8_t *work, size_t work_length,
+                           uint8_t *result, size_t result_length)
+{
+    struct run run = {query, input, joined, query_length, input_length, joined_length, work, result,
+                      work_length, result_length, work_length > 0 ? work[0] : 0, 0, 0};
+    uint64_t answer = __real_tquery_run(query, query_length, input, input_length, joined, joined_length,
+                                        work, work_length, result, result_length);
+    run.number = TQUERY_NUMBER(answer);
+    run.length = TQUERY_LENGTH(answer);
+    if (fault() < OF_RUN) {
+        of_run[fault()].fault(&run);
+    }
+    return (uint64_t)run.number << 32 | run.length;
+}
+
+uint64_t __wrap_tquery_check_array(const uint8_t *bytes, size_t length)
+{
+    uint64_t answer = __real_tquery_check_array(bytes, length);
+    switch (fault()) {
+    case READS_PAST:
+        seen = bytes[length];
+        return answer;
+    case WITH_LENGTH:
+        return answer == 5ull << 32 ? answer + 1 : answer;
+    case ANSWERS_6:
+        return answer == 4ull << 32 ? 6ull << 32 : answer;
+    case BY_PLACE:
+        return answer == 0 && (uintptr_t)bytes % 4096 == 0 ? 5ull << 32 : answer;
+    default:
+        return answer;
+    }
+}
+
+uint64_t __wrap_tquery_check_query(const uint8_t *bytes, size_t length)
+{
+    uint64_t answer = __real_tquery_check_query(bytes, length);
+    switch (fault()) {
+    case QUERY_2:
+        return answer == 3ull << 32 ? 2ull << 32 : answer;
+    case QUERY_0:
+        return answer == 3ull << 32 ? 0 : answer;
+    default:
+        return answer;
+    }
+}

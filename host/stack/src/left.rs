@@ -1,0 +1,132 @@
+//! What a call leaves on the stack of the records that it was lent.
+
+use reference::bytes::tags;
+use reference::generate::Case;
+use std::collections::HashSet;
+
+/// A text and an integer of distinctive bytes, for records.
+pub struct Contents {
+    pub text: [u8; 64],
+    pub integer: i64,
+}
+
+pub fn distinctive() -> Contents {
+    let text = std::array::from_fn(|place| (place as u8).wrapping_mul(151) ^ 0x3B);
+    Contents { text, integer: 0x5DB1_6F93_A7C4_E8D2 }
+}
+
+/// Runs of bytes of a record, of this length, that are searched for.
+const RUN: usize = 4;
+
+/// The runs of bytes of some contents, also as they stand in a register.
+pub struct Runs(HashSet<[u8; RUN]>);
+
+impl Runs {
+    pub fn new(contents: &Contents) -> Runs {
+        let mut runs = HashSet::new();
+        for bytes in [&contents.text[..], &contents.integer.to_be_bytes()] {
+            for window in bytes.windows(RUN) {
+                let mut run: [u8; RUN] = window.try_into().expect("a window has its length");
+                runs.insert(run);
+                run.reverse();
+                runs.insert(run);
+            }
+        }
+        Runs(runs)
+    }
+
+    /// How many places of some bytes have such a run.
+    pub fn found_in(&self, bytes: &[u8]) -> usize {
+        bytes.windows(RUN).filter(|window| self.0.contains(*window)).count()
+    }
+}
+
+/// What the bytes of texts and integers are changed by.
+const MASK: u8 = 0x49;
+
+/// An admitted case with other texts and integers, of which the same ones are equal as
+/// before; and whether its query reduces integers, after which others may be.
+pub fn masked(case: &Case) -> (Case, bool) {
+    let mut other = case.clone();
+    mask(&mut other.input);
+    mask(&mut other.joined);
+    let reduces = mask(&mut other.query);
+    (other, reduces)
+}
+
+/// Changes every byte of every text and integer in some fields. Answers
+/// whether an integer is reduced there.
+fn mask(bytes: &mut [u8]) -> bool {
+    let mut reduces = false;
+    let mut rest = bytes;
+    while let [tag, high, low, behind @ ..] = rest {
+        let length = usize::from(u16::from_be_bytes([*high, *low])).min(behind.len());
+        let (content, next) = behind.split_at_mut(length);
+        reduces |= *tag == tags::REDUCED;
+        match *tag {
+            tags::INTEGER | tags::TEXT => content.iter_mut().for_each(|byte| *byte ^= MASK),
+            tags::VOID | tags::BOOLEAN | tags::PATH | tags::DIVISOR => {}
+            tags::LABEL => reduces |= mask(&mut content[1..]),
+            _ => reduces |= mask(content),
+        }
+        rest = next;
+    }
+    reduces
+}
+
+/// How many bytes of two stacks differ, counted from their common top, and how
+/// many of them stand together at most.
+pub fn differing(one: &[u8], other: &[u8]) -> (usize, usize) {
+    let (mut all, mut together, mut most) = (one.len().abs_diff(other.len()), 0, 0);
+    for (a, b) in one.iter().rev().zip(other.iter().rev()) {
+        together = if a == b { 0 } else { together + 1 };
+        all += usize::from(a != b);
+        most = most.max(together);
+    }
+    (all, most)
+}
+
+#[cfg(test)]
+mod tests {
+    use super::*;
+    use reference::bytes::{decode_array, encode_array, encode_query};
+    use reference::stages::{Criterion, Data, Item, Stage};
+    use reference::tree::Tree;
+
+    #[test]
+    fn runs_are_found_both_ways() {
+        let contents = distinctive();
+        let runs = Runs::new(&contents);
+        assert_eq!(runs.found_in(&contents.text[20..24]), 1);
+        assert_eq!(runs.found_in(&contents.text[20..23]), 0);
+        assert_eq!(runs.found_in(&contents.integer.to_le_bytes()), 5);
+        assert_eq!(runs.found_in(&[0; 100]), 0);
+    }
+
+    #[test]
+    fn texts_and_integers_are_masked_and_nothing_else() {
+        let tree = |text: &[u8], integer: i64| {
+            let under = vec![Tree::text(text), Tree::integer(integer)];
+            vec![Tree::void().with(5, under).with(6, vec![])]
+        };
+        let mut bytes = encode_array(&tree(b"ab", 7)).unwrap();
+        assert!(!mask(&mut bytes));
+        let integer = 7 ^ i64::from_ne_bytes([MASK; 8]);
+        assert_eq!(decode_array(&bytes).unwrap(), tree(&[b'a' ^ MASK, b'b' ^ MASK], integer));
+    }
+
+    #[test]
+    fn a_reduced_integer_is_seen() {
+        let place = |data| vec![Stage::Project(vec![Item::Place(data, vec![5])])];
+        let mut reduced = encode_query(&place(Data::List(vec![Data::Reduced(vec![5], 10)]))).unwrap();
+        assert!(mask(&mut reduced));
+        let mut none = encode_query(&place(Data::Criterion(Criterion::Exists(vec![45])))).unwrap();
+        assert!(!mask(&mut none));
+    }
+
+    #[test]
+    fn differences_are_counted() {
+        assert_eq!(differing(&[1, 2, 3, 4, 5], &[1, 9, 9, 4, 9]), (3, 2));
+        assert_eq!(differing(&[7, 7, 1], &[1]), (2, 0));
+    }
+}

@@ -1,0 +1,182 @@
+//! `stack [N] [SEED]`: how much stack calls of the engine use, and what they
+//! leave there.
+//!
+//! Calls run on a stack of their own that is painted before. Measured are
+//! cases made to go deep, and N random ones. Ends with status 1 if a call used
+//! more than [`BOUND`], or if more than [`TOGETHER`] bytes of a record stayed
+//! behind together.
+//!
+//! What stays of the records is looked for in two ways. In the deep cases they
+//! hold texts and integers of distinctive bytes, and runs of four of them are
+//! searched for, in either order. And an admitted case runs a second time with
+//! the same areas at the same places, but with other texts and integers: every
+//! byte of the stack that differs then depends on what the records hold.
+
+mod left;
+mod lent;
+mod painted;
+mod worst;
+
+use left::{differing, distinctive, masked, Runs};
+use lent::Lent;
+use reference::generate::{Case, Cases};
+use std::collections::BTreeMap;
+use std::process::ExitCode;
+
+/// No call may use more, in bytes: its four arguments on the stack and its
+/// return address included.
+const BOUND: usize = 10_240;
+
+/// No more bytes of a record may stay behind together: one, where a register
+/// that had held it was saved.
+const TOGETHER: usize = 1;
+
+const DEFAULT_CASES: u64 = 100_000;
+
+fn main() -> ExitCode {
+    let arguments: Option<Vec<u64>> = std::env::args().skip(1).map(|word| word.parse().ok()).collect();
+    let measured = match arguments.as_deref() {
+        Some([]) => measure(DEFAULT_CASES, 1),
+        Some([number]) => measure(*number, 1),
+        Some([number, seed]) => measure(*number, *seed),
+        _ => {
+            eprintln!("usage: stack [N] [SEED]");
+            return ExitCode::from(2);
+        }
+    };
+    measured.print();
+    if measured.passes() {
+        ExitCode::SUCCESS
+    } else {
+        ExitCode::FAILURE
+    }
+}
+
+/// The calls of a kind: how many, how many of them accepted, and the deepest.
+#[derive(Default)]
+struct Kind {
+    calls: u64,
+    accepted: u64,
+    deepest: usize,
+}
+
+/// What stayed on the stack, over all calls.
+#[derive(Default)]
+struct Left {
+    /// Places with a run of a record's bytes.
+    runs: usize,
+    /// Cases that ran twice, with other records.
+    compared: u64,
+    /// Bytes that depend on what the records hold: in all these cases, in the
+    /// one that left most of them, and at most together.
+    all: usize,
+    most: usize,
+    together: usize,
+}
+
+#[derive(Default)]
+struct Measured {
+    kinds: BTreeMap<String, Kind>,
+    left: Left,
+}
+
+fn measure(number: u64, seed: u64) -> Measured {
+    let mut measured = Measured::default();
+    let mut lent = Lent::new();
+    measured.deep(&mut lent);
+    for (case, _) in Cases::new(seed).take(number as usize) {
+        let answer = lent.run(&case);
+        measured.count(format!("random, number {answer:>2}"), answer, lent.stack.used());
+        if matches!(answer, 0 | 8..) {
+            let (other, reduces) = masked(&case);
+            if !reduces {
+                measured.left.compare(&mut lent, answer, &other);
+            }
+        }
+    }
+    measured
+}
+
+impl Measured {
+    fn count(&mut self, kind: String, number: u8, used: usize) {
+        let kind = self.kinds.entry(kind).or_default();
+        kind.calls += 1;
+        kind.accepted += u64::from(number == 0);
+        kind.deepest = kind.deepest.max(used);
+    }
+
+    /// The cases made to go deep. All integers of their records are equal, so
+    /// what is reduced is equal too.
+    fn deep(&mut self, lent: &mut Lent) {
+        let contents = distinctive();
+        let runs = Runs::new(&contents);
+        for deep in worst::cases(&contents) {
+            let number = lent.run(&deep.case);
+            self.count(deep.kind.into(), number, lent.stack.used());
+            self.left.runs += runs.found_in(lent.stack.left());
+            self.left.compare(lent, number, &masked(&deep.case).0);
+            let number = lent.check_query(&deep.case);
+            self.count("check_query".into(), number, lent.stack.used());
+            let number = lent.check_array(&deep.case);
+            self.count("check_array".into(), number, lent.stack.used());
+        }
+    }
+
+    fn deepest(&self) -> usize {
+        self.kinds.values().map(|kind| kind.deepest).max().unwrap_or(0)
+    }
+
+    fn passes(&self) -> bool {
+        self.deepest() <= BOUND && self.left.runs == 0 && self.left.together <= TOGETHER
+    }
+
+    fn print(&self) {
+        println!("{:<28} {:>8} {:>8} {:>8}", "kind", "calls", "accepted", "bytes");
+        for (name, kind) in &self.kinds {
+            println!("{name:<28} {:>8} {:>8} {:>8}", kind.calls, kind.accepted, kind.deepest);
+        }
+        println!("deepest use: {} bytes; the bound is {BOUND}", self.deepest());
+        let Left { runs, compared, all, most, together } = self.left;
+        println!("runs of 4 bytes of a record left on the stack: {runs}");
+        println!("cases run twice with other records: {compared}");
+        println!(
+            "bytes left that differ: {all} in all, {most} in a case at most, {together} together at most"
+        );
+    }
+}
+
+impl Left {
+    /// Runs the case that a call, which has just been made and had a number,
+    /// is to be compared with.
+    fn compare(&mut self, lent: &mut Lent, number: u8, other: &Case) {
+        let left = lent.stack.left().to_vec();
+        assert_eq!(lent.run(other), number, "the number does not depend on which records are equal");
+        let (all, together) = differing(&left, lent.stack.left());
+        self.compared += 1;
+        self.all += all;
+        self.most = self.most.max(all);
+        self.together = self.together.max(together);
+    }
+}
+
+#[cfg(test)]
+mod tests {
+    use super::*;
+
+    #[test]
+    fn calls_stay_within_the_bound_and_leave_no_two_bytes_of_records() {
+        let measured = measure(5_000, 7);
+        assert!(measured.deepest() <= BOUND);
+        assert_eq!(measured.left.runs, 0);
+        assert!(measured.left.together <= TOGETHER);
+    }
+
+    #[test]
+    fn deep_cases_go_their_way() {
+        let mut lent = Lent::new();
+        for deep in worst::cases(&distinctive()) {
+            let accepted = lent.run(&deep.case) == 0;
+            assert_eq!(accepted, deep.kind != worst::REFUSED, "{}", deep.kind);
+        }
+    }
+}
