@@ -1,5 +1,5 @@
 /*
- * tquery.h: Tumkwasa's query engine, from C and C++.
+ * tquery.h: Tumkwasa's query engine, libtquery.a, from C and C++.
  *
  * The idea
  * --------
@@ -7,8 +7,8 @@
  * joined array, a work area and a result area. The engine runs the query,
  * none to eight stages, over the input and leaves the result in the result
  * area, or refuses by a number. It takes no heap, keeps no state between
- * calls, starts no thread and calls no library. Calls with different areas
- * may run at the same time.
+ * calls, starts no thread, and calls one function that is not its own, memset.
+ * Calls with different areas may run at the same time.
  *
  * Every area is the caller's, before, during and after a call. An area is a
  * pointer and a length. A length may be anything from 0 up; a pointer is
@@ -54,6 +54,46 @@
  * After 0 the result stands at the start of the result area, and the bytes
  * beyond its length are as they were. "Zero" is the whole area, of whatever
  * length.
+ *
+ * What a machine must have
+ * ------------------------
+ * Processor. The library is code for x86-64, called by the System V
+ * convention. It uses the registers of SSE2, and the 128 bytes below the stack
+ * pointer that the convention grants: an interrupt on the same stack must pass
+ * over them.
+ *
+ * memset. It is the one symbol that the library leaves to the machine's C
+ * runtime. tquery_run clears the work area and the result area by it, and what
+ * is said above of bytes that are zero rests on it. A machine without a C
+ * runtime provides a function of that name and meaning:
+ *
+ *     void *memset(void *area, int value, size_t length)
+ *     {
+ *         volatile unsigned char *bytes = area;
+ *         while (length > 0) {
+ *             bytes[--length] = (unsigned char)value;
+ *         }
+ *         return area;
+ *     }
+ *
+ * Compilers turn such a loop into a call of memset, and the function would
+ * call itself without end; "volatile" forbids that. Without "volatile" it can
+ * become many times faster, and is compiled with -fno-builtin, by GCC also
+ * with -fno-tree-loop-distribute-patterns.
+ *
+ * Stack. Every frame of the library has a fixed size, and the limits of the
+ * byte forms bound how deep calls nest. How many bytes that makes is measured,
+ * not proved. The most that was seen in cases made to go deep and in random
+ * ones, with a return address and four arguments on the stack counted in:
+ *
+ *     tquery_run          9,040 bytes
+ *     tquery_check_query  3,112 bytes
+ *     tquery_check_array  1,400 bytes
+ *
+ * The library's tests fail if a call uses more than TQUERY_STACK_MAX bytes.
+ * The library does not clear its stack, and single bytes of records were seen
+ * to stay there. A maker who must leave nothing of the records on the stack
+ * clears TQUERY_STACK_MAX bytes below the stack pointer after a call.
  */
 
 #ifndef TQUERY_H
@@ -69,8 +109,11 @@ extern "C" {
 /* Limits, in bytes. */
 #define TQUERY_WORK_MIN 65536   /* the least work area */
 #define TQUERY_QUERY_MAX 4096   /* the largest query */
-#define TQUERY_ARRAY_MAX 16384  /* the largest input, joined array and result */
+#define TQUERY_ARRAY_MAX 16384  /* the largest input, joined array, result */
 #define TQUERY_TREE_MAX 2048    /* the largest tree */
+
+/* No call was measured to use more stack, in bytes. Tested, not proved. */
+#define TQUERY_STACK_MAX 10240
 
 /* The numbers of the table. */
 #define TQUERY_ACCEPTED 0

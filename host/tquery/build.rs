@@ -1,4 +1,4 @@
-//! Links the engine's static library, which `rt staticlib engine` proves and writes.
+//! Links the engine's static library, which `rt staticlib tquery` proves and writes.
 
 use std::env;
 use std::path::PathBuf;
@@ -11,16 +11,16 @@ fn main() {
         .join("..")
         .join("target")
         .join("staticlib");
-    let library = directory.join("libengine.a");
+    let library = directory.join("libtquery.a");
     println!("cargo::rerun-if-changed={}", library.display());
     // `canonicalize` fails exactly where the directory or the library cannot be read.
     match (directory.canonicalize(), library.canonicalize()) {
         (Ok(directory), Ok(_)) => {
             println!("cargo::rustc-link-search=native={}", directory.display());
-            println!("cargo::rustc-link-lib=static=engine");
+            println!("cargo::rustc-link-lib=static=tquery");
         }
         _ => println!(
-            "cargo::error=the engine's library is not at {}: run `rt staticlib engine` at the top of the repository to make it",
+            "cargo::error=the engine's library is not at {}: run `rt staticlib tquery` at the top of the repository to make it",
             library.display()
         ),
     }

@@ -1,14 +1,21 @@
 //! The count of the cases that agree.
 ghost use Prim.Native.Nat.{_≤_};
-use crate::compare::Verdict;
-use crate::report::say_differs;
-use crate::report::say_malformed;
-use crate::report::say_total;
 use crate::turn::Turn;
 use crate::turn::next_case;
+use cases::compare::Verdict;
+use cases::report::say_total;
+use cases::report::say_verdict;
+
+/// The line of a case that differs.
+fn say_differs(case: u64, v: Verdict) {
+    io::print_decimal(1, case);
+    io::write_all(1, b": ");
+    say_verdict(v);
+    io::write_all(1, b"\n");
+}
 
 /// 1 for a case that agrees, 0 for one that differs: of these the first is reported.
-fn point(v: Verdict, case: u64, is_first: bool) -> u64
+fn counted(v: Verdict, case: u64, is_first: bool) -> u64
     ensures { λ r. ⌜ r ≤ 1 ⌝ }
 {
     if let Verdict::Agrees = v {
@@ -23,31 +30,26 @@ fn point(v: Verdict, case: u64, is_first: bool) -> u64
 /// The end of the reading, where case `case` would have been: if the input did not end there, that is reported.
 fn end(t: Turn, case: u64) {
     if let Turn::Malformed = t {
-        say_malformed(case);
+        io::write_all(1, b"malformed record ");
+        io::print_decimal(1, case);
+        io::write_all(1, b"\n");
     }
 }
 
-/// Runs every case and reports. A proved loop has to end, and nothing says that the input does, so the loop ends after a
-/// number of cases that no run reaches.
-pub fn count(
-    query: &mut [u8],
-    input: &mut [u8],
-    joined: &mut [u8],
-    work: &mut [u8],
-    result: &mut [u8],
-    expected: &mut [u8],
-) {
+/// Runs every case and reports the first that differs. A proved loop has to end, and nothing says that the input does, so
+/// the loop ends after a number of cases that no run reaches.
+pub fn count() {
     let mut cases = 0u64;
     let mut agree = 0u64;
     while cases < u64::MAX {
-        let t = next_case(query, input, joined, work, result, expected);
+        let t = next_case();
         let Turn::Compared(v) = t else {
             end(t, cases + 1);
-            say_total(cases, agree);
+            say_total(cases, b"cases", agree);
             return;
         };
-        agree += point(v, cases + 1, cases == agree);
+        agree += counted(v, cases + 1, cases == agree);
         cases += 1;
     }
-    say_total(cases, agree);
+    say_total(cases, b"cases", agree);
 }

@@ -3,27 +3,12 @@
 //! A case is one record: the query, the input and the joined array, each with its length before it in two bytes, the high
 //! one first; the length of the work area in three bytes, and of the result area in two; the number that is expected in one
 //! byte; and the result that is expected, with its length before it in two bytes.
-mod compare;
 mod count;
 mod record;
-mod report;
 mod turn;
 
 use crate::count::count;
 
 fn main() {
-    let mut query = [0u8; 20480];
-    let mut input = [0u8; 20480];
-    let mut joined = [0u8; 20480];
-    let mut work = [0u8; 70000];
-    let mut result = [0u8; 20480];
-    let mut expected = [0u8; 20480];
-    count(
-        &mut query,
-        &mut input,
-        &mut joined,
-        &mut work,
-        &mut result,
-        &mut expected,
-    );
+    count();
 }

@@ -1,11 +1,8 @@
 //! The parts of a record, read from standard input.
 ghost use Prim.Native.Nat.{_≤_};
-ghost use lib.ListN.{length};
-ghost use Rattle.corpus.specs.Record.{Fits};
-use format::head::wide;
+use areas::number::wide;
 
-/// What came: a number, or so many bytes; nothing, as the input ended before; or less than there should be, or a length past
-/// the buffer.
+/// What came: a number; nothing, as the input ended before; or less than it should be, or more than there is room for.
 pub enum Part {
     Whole(usize),
     Missing,
@@ -27,26 +24,26 @@ pub fn read_number(width: usize) -> Part
     Part::Whole(wide(b[0]) * 65536 + wide(b[1]) * 256 + wide(b[2]))
 }
 
-/// Reads n bytes to the start of a buffer.
-fn read_bytes(n: usize, buffer: &mut [u8]) -> Part
-    ensures { λ r. ⌜ Fits r (length (now (buffer .exit))) ⌝ }
-{
-    if buffer.len() < n {
+/// Reads n bytes to a place of a buffer: where they end.
+fn read_bytes(n: usize, buffer: &mut [u8], from: usize) -> Part {
+    if buffer.len() < from {
         return Part::Cut;
     }
-    let got = io::read_full(0, &mut buffer[..n]);
+    if buffer.len() - from < n {
+        return Part::Cut;
+    }
+    let to = from + n;
+    let got = io::read_full(0, &mut buffer[from..to]);
     if got < n {
         return Part::Cut;
     }
-    Part::Whole(n)
+    Part::Whole(to)
 }
 
-/// Reads a length in two bytes, and so many bytes to the start of a buffer.
-pub fn read_part(buffer: &mut [u8]) -> Part
-    ensures { λ r. ⌜ Fits r (length (now (buffer .exit))) ⌝ }
-{
+/// Reads a length in two bytes, and so many bytes to a place of a buffer: where they end.
+pub fn read_part(buffer: &mut [u8], from: usize) -> Part {
     match read_number(2) {
-        Part::Whole(n) => read_bytes(n, buffer),
+        Part::Whole(n) => read_bytes(n, buffer, from),
         Part::Missing => Part::Missing,
         Part::Cut => Part::Cut,
     }

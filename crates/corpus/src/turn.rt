@@ -1,107 +1,55 @@
 //! One turn: a record is read and its case run and compared.
-ghost use Prim.Native.Nat.{_≤_};
-ghost use lib.ListN.{length};
-use crate::compare::Verdict;
-use crate::compare::compare;
 use crate::record::Part;
 use crate::record::read_number;
 use crate::record::read_part;
+use cases::compare::Case;
+use cases::compare::Verdict;
+use cases::compare::compare;
 
-/// The case was compared; or there was no record more; or it is cut short, or has a length past the buffers.
+/// The case was compared; or there was no record more; or it is cut short, or has a length past the buffer.
 pub enum Turn {
     Compared(Verdict),
     Ended,
     Malformed,
 }
 
-/// Reads the expected number and the expected result, and runs the case in areas of the lengths that it asks for.
-fn expect<'a>(
-    query: &'a [u8],
-    input: &'a [u8],
-    joined: &'a [u8],
-    work: &mut [u8],
-    result: &mut [u8],
-    expected: &mut [u8],
-) -> Turn {
-    let Part::Whole(n) = read_number(1) else {
+/// Reads what is behind a query that ends at q, and runs the case.
+fn behind_query(q: usize, bytes: &mut [u8]) -> Turn {
+    let Part::Whole(i) = read_part(bytes, q) else {
         return Turn::Malformed;
     };
-    let Part::Whole(e) = read_part(expected) else {
+    let Part::Whole(j) = read_part(bytes, i) else {
         return Turn::Malformed;
     };
-    Turn::Compared(compare(query, input, joined, n as u64, &expected[..e], work, result))
-}
-
-/// Reads the lengths of the two areas, and the rest of the record.
-fn areas<'a>(
-    query: &'a [u8],
-    input: &'a [u8],
-    joined: &'a [u8],
-    work: &mut [u8],
-    result: &mut [u8],
-    expected: &mut [u8],
-) -> Turn {
     let Part::Whole(w) = read_number(3) else {
         return Turn::Malformed;
     };
     let Part::Whole(r) = read_number(2) else {
         return Turn::Malformed;
     };
-    if work.len() < w {
-        return Turn::Malformed;
-    }
-    if result.len() < r {
-        return Turn::Malformed;
-    }
-    expect(
-        query,
-        input,
-        joined,
-        &mut work[..w],
-        &mut result[..r],
-        expected,
-    )
-}
-
-/// Reads the input and the joined array, and the rest of the record, behind a query of q bytes.
-fn arrays(
-    q: usize,
-    query: &mut [u8],
-    input: &mut [u8],
-    joined: &mut [u8],
-    work: &mut [u8],
-    result: &mut [u8],
-    expected: &mut [u8],
-) -> Turn
-    requires { ⌜ q ≤ length (now query) ⌝ }
-{
-    let Part::Whole(i) = read_part(input) else {
+    let Part::Whole(n) = read_number(1) else {
         return Turn::Malformed;
     };
-    let Part::Whole(j) = read_part(joined) else {
+    let Part::Whole(e) = read_part(bytes, j) else {
         return Turn::Malformed;
     };
-    areas(
-        &query[..q],
-        &input[..i],
-        &joined[..j],
-        work,
-        result,
-        expected,
-    )
+    let c = Case {
+        query_end: q,
+        input_end: i,
+        joined_end: j,
+        result_end: e,
+        work: w,
+        room: r,
+        number: n as u64,
+    };
+    Turn::Compared(compare(bytes, c))
 }
 
-/// Reads a record into the buffers, runs its case in the areas and compares it.
-pub fn next_case(
-    query: &mut [u8],
-    input: &mut [u8],
-    joined: &mut [u8],
-    work: &mut [u8],
-    result: &mut [u8],
-    expected: &mut [u8],
-) -> Turn {
-    match read_part(query) {
-        Part::Whole(q) => arrays(q, query, input, joined, work, result, expected),
+/// Reads a record, runs its case and compares it.
+pub fn next_case() -> Turn {
+    let mut bytes = [0u8; 65536];
+    match read_part(&mut bytes, 0) {
+        Part::Whole(q) => behind_query(q, &mut bytes),
         Part::Missing => Turn::Ended,
         Part::Cut => Turn::Malformed,
     }

@@ -3,17 +3,17 @@ use mathlib.Core.Path.{_≡_}
 use mathlib.Core.List.{List}
 use Prim.Native.Nat.{ℕ, _+_, _≤_}
 use lib.ListN.{length}
-use Rattle.format.specs.Limits.{arrayMax}
-use Rattle.format.specs.Tree.{Tree}
-use Rattle.format.specs.Area.{Is}
+use Rattle.spec_trees.specs.Limits.{arrayMax}
+use Rattle.spec_trees.specs.Tree.{Tree}
+use Rattle.areas.specs.Area.{Is}
 use Rattle.format.specs.Stand.{treesBytes, Holds}
-use Rattle.query.specs.Places.{arrayTrees}
-use Rattle.stages.specs.Stages.{State, going}
+use Rattle.queries.specs.Places.{arrayTrees}
+use Rattle.spec_stages.specs.Stages.{State, going}
 use Rattle.stretches.specs.declared.ended.Ended.{Ended}
-use Rattle.stretches.specs.Ended.{collectorAt, Ends}
-use Rattle.engine.specs.declared.answer.Answer.{Answer}
-use Rattle.engine.specs.Answer.{Answers}
-use Rattle.engine.specs.Run.{final, outcomeIn}
+use Rattle.stretches.specs.Ended.{collectorAt, EndedIs}
+use Rattle.spec_run.specs.declared.answer.Answer.{Answer}
+use Rattle.spec_run.specs.Answer.{AnswersAs}
+use Rattle.spec_run.specs.Run.{final}
 
 -- src is the trees of an array, and out has just its room
 pub record ArrayReady (out src : List ℕ) : Type 0 where
@@ -28,17 +28,17 @@ pub record AcceptReady (w : List ℕ) (n : ℕ) : Type 0 where
   pub short : n + 3 ≤ arrayMax
   pub wide : 21844 ≤ length w
 
--- whatever trees they are, the outcome is the plain run's
+-- whatever trees they are, the verdict is the plain run's
 abbrev pub Accepts : (w : List ℕ) (n : ℕ) (area left : List ℕ) → Answer → Type 0
 Accepts w n area left a = (ts : List Tree) → Is w (collectorAt (length w)) (collectorAt (length w) + n) (arrayTrees ts)
-    → Answers a left (outcomeIn area (final (length area) (going ts)))
+    → AnswersAs area (final (length area) (going ts)) a left
 
 -- r says some state
 pub record FinishReady (w : List ℕ) (r : Ended) : Type 0 where
   pub state : State
-  pub ended : Ends w r state
+  pub ended : EndedIs w r state
   pub wide : 21844 ≤ length w
 
--- whatever state it says, the outcome is the plain run's
+-- whatever state it says, the verdict is the plain run's
 abbrev pub Finishes : (w : List ℕ) (r : Ended) (area left : List ℕ) → Answer → Type 0
-Finishes w r area left a = (st : State) → Ends w r st → Answers a left (outcomeIn area (final (length area) st))
+Finishes w r area left a = (st : State) → EndedIs w r st → AnswersAs area (final (length area) st) a left

@@ -1,34 +1,33 @@
 -- Laws of the end of a run: the array that is written, and the outcome of each end.
 use mathlib.Core.Path.{_≡_, refl, sym, ap, ap₂, subst, _∙_}
-use mathlib.Core.List.{List, [], _∷_, _++_, append-assoc}
-use mathlib.Core.Bool.{Bool, true, false, cond, _&&_}
+use mathlib.Core.List.{List, _++_, append-assoc}
+use mathlib.Core.Bool.{true, false, _&&_}
 use Prim.Native.Nat.{ℕ, _+_, _-_, _≤_, _<_}
 use native.Mathlib.Omega.{arith}
-use lib.ListN.{length, take, drop, replicate, length-append, length-take, length-drop}
+use lib.ListN.{length, take, drop, replicate, length-append, length-drop}
 use lib.Seq.{take-all, take-add, length-take-le}
 use lib.Dec.{leb}
-use Rattle.format.specs.declared.area.Out.{Out}
-use Rattle.format.specs.declared.area.Out.the-variants.{At, TooLarge}
-use Rattle.format.specs.Limits.{arrayMax}
-use Rattle.format.specs.OptionLaws.{leb-yes, leb-no}
-use Rattle.format.specs.Tree.{Tree, trees}
-use Rattle.format.specs.Size.{arraySize}
-use Rattle.format.specs.Bytes.{fieldBytes, bytes, treeFs, arrayF, arrayBytes}
-use Rattle.format.specs.Area.{Is, Wrote, headBytes}
-use Rattle.format.specs.AreaLaws.{is-part, told}
-use Rattle.format.specs.Stand.{treesBytes, Holds}
-use Rattle.query.specs.Places.{arrayTrees}
-use Rattle.stages.specs.Stages.{State, going, large, long}
+use Rattle.areas.specs.declared.area.Out.{Out}
+use Rattle.areas.specs.declared.area.Out.the-variants.{At}
+use Rattle.spec_trees.specs.Limits.{arrayMax}
+use Rattle.spec_trees.specs.OptionLaws.{leb-yes, leb-no}
+use Rattle.spec_trees.specs.Tree.{Tree, trees}
+use Rattle.spec_trees.specs.Size.{arraySize}
+use Rattle.spec_trees.specs.Bytes.{fieldBytes, arrayF, arrayBytes}
+use Rattle.areas.specs.Area.{Is, Wrote, headBytes}
+use Rattle.areas.specs.AreaLaws.{is-part, told}
+use Rattle.queries.specs.Places.{arrayTrees}
+use Rattle.spec_stages.specs.Stages.{State, going, large, long}
 use Rattle.stretches.specs.declared.ended.Ended.{Ended}
 use Rattle.stretches.specs.LaterLaws.{size-is}
-use Rattle.stretches.specs.Ended.{collectorAt, HeldIs, FullIs, Ends}
-use Rattle.engine.specs.declared.answer.Refusal.{Refusal}
-use Rattle.engine.specs.declared.answer.Refusal.the-variants.{TreeLarge, GroupLong, ResultLong}
-use Rattle.engine.specs.declared.answer.Answer.{Answer}
-use Rattle.engine.specs.declared.answer.Answer.the-variants.{Accepted, Refused}
-use Rattle.engine.specs.Refusal.{leave, resultLeft}
-use Rattle.engine.specs.Run.{final, outcomeIn, gives, refused}
-use Rattle.engine.specs.Answer.{Answers}
+use Rattle.stretches.specs.Ended.{collectorAt, FullIs}
+use Rattle.spec_run.specs.declared.answer.Refusal.{Refusal}
+use Rattle.spec_run.specs.declared.answer.Refusal.the-variants.{TreeLarge, GroupLong, ResultLong}
+use Rattle.spec_run.specs.declared.answer.Answer.{Answer}
+use Rattle.spec_run.specs.declared.answer.Answer.the-variants.{Accepted, Refused}
+use Rattle.spec_run.specs.Refusal.{keepsResult}
+use Rattle.spec_run.specs.Answer.{AnswersAs}
+use Rattle.spec_run.specs.Run.{final, zeros, numberIn, lengthIn, resultAfter}
 use Rattle.engine.specs.Finish.{ArrayReady, AcceptReady, Accepts, FinishReady, Finishes}
 
 -- ---- the array is written: its head, and each tree behind the one before it
@@ -74,21 +73,21 @@ bytes-size ts = sym (ap length (array-is ts)) ∙ omega (arith, length-append (h
 
 -- a refusal in or after the stages
 module _ {a : Answer} {left : List ℕ} (area : List ℕ) {r : Refusal} (h : (a ≡ Refused r) × (left ≡ replicate (length area) 0)) where
-  pub failed-large : r ≡ TreeLarge → {st : State} → st ≡ large → Answers a left (outcomeIn area (final (length area) st))
-  unfolding outcomeIn final leave resultLeft
-  failed-large z y = rw (y, h .0, z) record { number = refl; length = refl; result = h .1 }
+  pub failed-large : r ≡ TreeLarge → {st : State} → st ≡ large → AnswersAs area (final (length area) st) a left
+  unfolding final numberIn lengthIn resultAfter zeros keepsResult
+  failed-large z y = rw (y, h .0, z) record { number-is = refl; length-is = refl; result-is = h .1 }
 
-  pub failed-long : r ≡ GroupLong → {st : State} → st ≡ long → Answers a left (outcomeIn area (final (length area) st))
-  unfolding outcomeIn final leave resultLeft
-  failed-long z y = rw (y, h .0, z) record { number = refl; length = refl; result = h .1 }
+  pub failed-long : r ≡ GroupLong → {st : State} → st ≡ long → AnswersAs area (final (length area) st) a left
+  unfolding final numberIn lengthIn resultAfter zeros keepsResult
+  failed-long z y = rw (y, h .0, z) record { number-is = refl; length-is = refl; result-is = h .1 }
 
   failed-by : r ≡ ResultLong → (ts : List Tree) → (leb (arraySize ts) arrayMax && leb (arraySize ts) (length area)) ≡ false
-      → Answers a left (outcomeIn area (final (length area) (going ts)))
-  unfolding outcomeIn final leave resultLeft
-  failed-by z ts y = rw (y, h .0, z) record { number = refl; length = refl; result = h .1 }
+      → AnswersAs area (final (length area) (going ts)) a left
+  unfolding final numberIn lengthIn resultAfter zeros keepsResult
+  failed-by z ts y = rw (y, h .0, z) record { number-is = refl; length-is = refl; result-is = h .1 }
 
-  pub failed-full : r ≡ ResultLong → {st : State} → FullIs st → Answers a left (outcomeIn area (final (length area) st))
-  failed-full z {st} f = subst (λ s. Answers a left (outcomeIn area (final (length area) s))) (sym (f .same))
+  pub failed-full : r ≡ ResultLong → {st : State} → FullIs st → AnswersAs area (final (length area) st) a left
+  failed-full z {st} f = subst (λ s. AnswersAs area (final (length area) s) a left) (sym (f .same))
       (failed-by z (f .trees) (ap (λ b. b && leb (arraySize (f .trees)) (length area)) (leb-no (arraySize (f .trees)) arrayMax (f .over))))
 
   pub failed-room : (w : List ℕ) (n : ℕ) → r ≡ ResultLong → n + 3 ≤ arrayMax → length area < n + 3 → Accepts w n area left a
@@ -100,7 +99,7 @@ module _ {a : Answer} {left : List ℕ} (area : List ℕ) {r : Refusal} (h : (a 
 pub accepted-room : (w : List ℕ) (n : ℕ) (area : List ℕ) {x : List ℕ} (from : ℕ) → from ≡ collectorAt (length w) → n + 3 ≤ arrayMax → n + 3 ≤ length area
     → x ≡ headBytes 1 (length (take (from + n - from) (drop from w))) ++ take (from + n - from) (drop from w)
     → Accepts w n area (x ++ drop (n + 3) area) (Accepted (n + 3))
-unfolding outcomeIn final
+unfolding final numberIn lengthIn resultAfter
 accepted-room w n area {x} from y m l z ts t =
     let t2 : Is w from (from + n) (arrayTrees ts) = subst (λ k. Is w k (k + n) (arrayTrees ts)) (sym y) t in
     let p : take (from + n - from) (drop from w) ≡ arrayTrees ts = is-part t2 in
@@ -109,7 +108,7 @@ accepted-room w n area {x} from y m l z ts t =
     let s = size-is ts in
     let c : (leb (arraySize ts) arrayMax && leb (arraySize ts) (length area)) ≡ true =
     ap₂ _&&_ (leb-yes (arraySize ts) arrayMax (omega (arith, t .ends))) (leb-yes (arraySize ts) (length area) (omega (arith, t .ends))) in
-    rw c record { number = refl; length = k; result = ap₂ (λ b i. b ++ drop i area) q k }
+    rw c record { number-is = refl; length-is = k; result-is = ap₂ (λ b i. b ++ drop i area) q k }
 
 -- ---- what each end asks and says
 module _ {w : List ℕ} {r : Ended} where
@@ -121,7 +120,7 @@ module _ {w : List ℕ} {r : Ended} where
   pub held-finish : {n : ℕ} (area : List ℕ) {left : List ℕ} {a : Answer} → r ≡ Ended.Held n → Accepts w n area left a → Finishes w r area left a
   held-finish {n} area {left} {a} z h st k =
       let x = k .held n z in
-      subst (λ s. Answers a left (outcomeIn area (final (length area) s))) (sym (x .same)) (h (x .trees) (x .trees-are))
+      subst (λ s. AnswersAs area (final (length area) s) a left) (sym (x .same)) (h (x .trees) (x .trees-are))
 
 -- what stands in the collector is an array's trees
 pub accept-array : {w : List ℕ} {n : ℕ} (from : ℕ) (out : List ℕ) → from ≡ collectorAt (length w) → AcceptReady w n → length out ≡ n + 3

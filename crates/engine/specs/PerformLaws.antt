@@ -1,43 +1,39 @@
--- The run answers as the plain run: an admitted call by its stages, another by its refusal.
+-- The run answers as the plain run: a call that passed its tests by its stages, another by its refusal.
 use mathlib.Core.Path.{_≡_, refl, sym, ap, subst, _∙_}
 use mathlib.Core.List.{List, _++_}
 use mathlib.Core.Bool.{Bool, true, false, cond, _&&_}
-use Prim.Native.Nat.{ℕ, _≤_, _<_}
+use Prim.Native.Nat.{ℕ, _≤_}
 use native.Mathlib.Omega.{arith}
-use lib.ListN.{length, take, drop, replicate, length-append, length-drop, length-replicate}
+use lib.ListN.{length, take, drop, replicate, length-append, length-drop}
 use lib.Seq.{length-take-le}
 use lib.Dec.{leb}
 use borrow.Author.Tests.{leb-true, leb-false}
-use Rattle.format.specs.Limits.{arrayMax, workMin}
-use Rattle.format.specs.Size.{arraySize}
-use Rattle.format.specs.OptionLaws.{leb-yes, leb-no}
-use Rattle.format.specs.Tree.{Tree}
-use Rattle.format.specs.Bytes.{arrayBytes}
-use Rattle.format.specs.Within.{AllBytes, Within}
-use Rattle.format.specs.ArrayLaws.{array-only, read-array}
-use Rattle.query.specs.Query.{Stage}
-use Rattle.query.specs.Bytes.{queryBytes}
-use Rattle.query.specs.Rules.{OkQ}
-use Rattle.query.specs.QueryLaws.{query-only, read-query}
-use Rattle.stages.specs.Stages.{State, going, large, long, stages}
+use Rattle.spec_trees.specs.Limits.{workMin}
+use Rattle.spec_trees.specs.OptionLaws.{leb-yes}
+use Rattle.spec_trees.specs.Size.{arraySize}
+use Rattle.spec_trees.specs.Bytes.{arrayBytes}
+use Rattle.spec_trees.specs.Within.{AllBytes}
+use Rattle.spec_trees.specs.ArrayLaws.{array-only, read-array}
+use Rattle.spec_queries.specs.QueryLaws.{query-only, read-query}
+use Rattle.spec_stages.specs.Stages.{State, going, large, long, stages}
 use Rattle.stretches.specs.declared.ended.Ended.{Ended}
-use Rattle.stretches.specs.Ended.{Admitted, Runs}
-use Rattle.engine.specs.declared.answer.Refusal.{Refusal}
-use Rattle.engine.specs.declared.answer.Refusal.the-variants.{ResultLong}
-use Rattle.engine.specs.declared.answer.Answer.{Answer}
-use Rattle.engine.specs.declared.answer.Answer.the-variants.{Accepted, Refused}
-use Rattle.engine.specs.declared.admit.Admission.the-variants as admission-is
-use Rattle.engine.specs.Refusal.{asItWas, allZero, leave, workLeft, resultLeft}
-use Rattle.engine.specs.Run.{Ending, gives, refused, final, ending, outcomeIn, plainRun, workAfter}
-use Rattle.engine.specs.Answer.{Answers}
-use Rattle.engine.specs.Admit.{admission}
-use Rattle.engine.specs.AdmitLaws.{Reads, admitted-reads, reads-ending, Early, refused-early}
+use Rattle.stretches.specs.Ended.{Forms, Runs}
+use Rattle.spec_run.specs.declared.answer.Refusal.{Refusal}
+use Rattle.spec_run.specs.declared.answer.Refusal.the-variants.{ResultLong}
+use Rattle.spec_run.specs.declared.answer.Answer.{Answer}
+use Rattle.spec_run.specs.declared.answer.Answer.the-variants.{Refused}
+use Rattle.engine.specs.declared.check.CallCheck.the-variants as check-is
+use Rattle.spec_run.specs.Run.{Call, numberIn, lengthIn, resultAfter, zeros, workAfter, outcomeOf, plainRun}
+use Rattle.spec_run.specs.RunLaws.{reads-verdict}
+use Rattle.spec_run.specs.Answer.{numbered, lengthened, Answered}
+use Rattle.engine.specs.Check.{callCheck}
+use Rattle.engine.specs.CheckLaws.{passed-reads, refused-early}
 use Rattle.engine.specs.Finish.{FinishReady, Finishes}
 use Rattle.engine.specs.Perform.{Performs}
 
 -- ---- the stages, and then the end
 module _ {q i j w : List ℕ} {r : Ended} (k : Runs q i j w r) where
-  pub runs-finish : Admitted q i j → 21844 ≤ length w → FinishReady w r
+  pub runs-finish : Forms q i j → 21844 ≤ length w → FinishReady w r
   runs-finish h b = record {
     state = stages (h .joined) (h .query) (going (h .input));
     ended = k (h .query) (h .input) (h .joined) (h .query-is) (h .query-ok) (h .input-is) (h .input-ok) (h .joined-is) (h .joined-ok);
@@ -47,68 +43,60 @@ module _ {q i j w : List ℕ} {r : Ended} (k : Runs q i j w r) where
   pub runs-perform : (area : List ℕ) {left : List ℕ} {a : Answer} → Finishes w r area left a → Performs q i j area left a
   runs-perform area f ss ts us e1 o1 e2 o2 e3 o3 = f (stages us ss (going ts)) (k ss ts us e1 o1 e2 o2 e3 o3)
 
--- ---- an admitted call
-final-zero : (room : ℕ) (st : State) (work : List ℕ) → workAfter (final room st) work ≡ replicate (length work) 0
-unfolding final workAfter leave workLeft
-final-zero room large work = refl
-final-zero room long work = refl
-final-zero room (going ts) work = go (leb (arraySize ts) arrayMax && leb (arraySize ts) room)
-  where
-    go : (c : Bool) → workAfter (cond c (gives (arrayBytes ts)) (refused ResultLong)) work ≡ replicate (length work) 0
-    go true = refl
-    go false = refl
-
-module _ (q i j : List ℕ) (n : ℕ) (bq : AllBytes q) (bi : AllBytes i) (bj : AllBytes j) (z : admission q i j n ≡ admission-is.Admitted) where
-  read : Reads q i j n
-  read = admitted-reads q i j n z
-
-  pub admitted-call : Admitted q i j
-  admitted-call =
-      let s = query-only q (read .query) bq (read-query q (read .query) .0 (read .query-is)) in
-      let t = array-only i (read .input) bi (read-array i (read .input) .0 (read .input-is)) in
-      let u = array-only j (read .joined) bj (read-array j (read .joined) .0 (read .joined-is)) in
+-- ---- a call that passed its tests
+module _ (c : Call) (bq : AllBytes (c .query)) (bi : AllBytes (c .input)) (bj : AllBytes (c .joined))
+    (z : callCheck (c .query) (c .input) (c .joined) (length (c .work)) ≡ check-is.Passed) where
+  pub passed-forms : Forms (c .query) (c .input) (c .joined)
+  passed-forms =
+      let (ss, ts, us, r) = passed-reads c z in
+      let s = query-only (c .query) ss bq (read-query (c .query) ss .0 (r .query)) in
+      let t = array-only (c .input) ts bi (read-array (c .input) ts .0 (r .input)) in
+      let u = array-only (c .joined) us bj (read-array (c .joined) us .0 (r .joined)) in
       record {
-        query = read .query;
+        query = ss;
         query-is = sym (s .0);
         query-ok = s .1;
-        input = read .input;
+        input = ts;
         input-is = sym (t .0);
         input-ok = t .1;
-        joined = read .joined;
+        joined = us;
         joined-is = sym (u .0);
         joined-ok = u .1;
       }
 
-  pub admitted-enough : workMin ≤ n
-  admitted-enough = read .enough
+  pub passed-enough : workMin ≤ length (c .work)
+  passed-enough = let (ss, ts, us, r) = passed-reads c z in r .enough
 
-  pub admitted-answers : (area : List ℕ) {left : List ℕ} {a : Answer} → Performs q i j area left a → Answers a left (plainRun q i j n area)
-  unfolding plainRun read admitted-call
-  admitted-answers area {left} {a} p =
-      let h = admitted-call in
-      subst (λ e. Answers a left (outcomeIn area e)) (sym (reads-ending q i j n read (length area)))
-      (p (read .query) (read .input) (read .joined) (h .query-is) (h .query-ok) (h .input-is) (h .input-ok) (h .joined-is) (h .joined-ok))
+  pub passed-answered : {a : Answer} {left work : List ℕ} → Performs (c .query) (c .input) (c .joined) (c .result) left a → work ≡ replicate (length (c .work)) 0
+      → Answered c (numbered a) (lengthened a) left work
+  unfolding plainRun outcomeOf workAfter zeros
+  passed-answered {a} {left} {work} p e =
+      let (ss, ts, us, r) = passed-reads c z in
+      let s = query-only (c .query) ss bq (read-query (c .query) ss .0 (r .query)) in
+      let t = array-only (c .input) ts bi (read-array (c .input) ts .0 (r .input)) in
+      let u = array-only (c .joined) us bj (read-array (c .joined) us .0 (r .joined)) in
+      let v = reads-verdict c ss ts us r in
+      let k = p ss ts us (sym (s .0)) (s .1) (sym (t .0)) (t .1) (sym (u .0)) (u .1) in
+      record {
+        number-is = k .number-is ∙ sym (ap numberIn v);
+        length-is = k .length-is ∙ sym (ap lengthIn v);
+        result-is = k .result-is ∙ sym (ap (resultAfter (c .result)) v);
+        work-is = e ∙ sym (ap (λ b. cond b (replicate (length (c .work)) 0) (c .work)) (leb-yes workMin (length (c .work)) (r .enough)));
+      }
 
-  pub admitted-work : (room : ℕ) (work : List ℕ) {left : List ℕ} → left ≡ replicate (length work) 0 → left ≡ workAfter (ending q i j n room) work
-  admitted-work room work e = e ∙ sym (ap (λ x. workAfter x work) (reads-ending q i j n read room) ∙ final-zero room _ work)
-
--- ---- a call that is refused early
-module _ (q i j : List ℕ) (work : List ℕ) {r : Refusal} (z : admission q i j (length work) ≡ admission-is.Refused r) where
-  early : Early q i j (length work) r
-  early = refused-early q i j (length work) r z
-
-  pub refused-answers : (area : List ℕ) {a : Answer} → a ≡ Refused r → Answers a area (plainRun q i j (length work) area)
-  unfolding plainRun outcomeIn leave
-  refused-answers area {a} e = rw (early .ends (length area), early .result, e) record { number = refl; length = refl; result = refl }
-
-  pub refused-work : (room : ℕ) {left : List ℕ} → left ≡ cond (leb workMin (length work)) (replicate (length work) 0) work
-      → left ≡ workAfter (ending q i j (length work) room) work
-  unfolding workAfter leave
-  refused-work room {left} e = rw (early .ends room) (go (leb workMin (length work)) refl e)
-    where
-      go : (c : Bool) → leb workMin (length work) ≡ c → left ≡ cond c (replicate (length work) 0) work → left ≡ leave (workLeft r) work
-      go true l y = y ∙ sym (ap (λ x. leave x work) (early .enough (leb-true workMin (length work) l)))
-      go false l y = y ∙ sym (ap (λ x. leave x work) (early .short (leb-false workMin (length work) l)))
+-- ---- a call that is refused by its tests
+pub refused-answered : (c : Call) {r : Refusal} → callCheck (c .query) (c .input) (c .joined) (length (c .work)) ≡ check-is.Refused r
+    → {a : Answer} {work : List ℕ} → a ≡ Refused r → work ≡ cond (leb workMin (length (c .work))) (replicate (length (c .work)) 0) (c .work)
+    → Answered c (numbered a) (lengthened a) (c .result) work
+unfolding plainRun outcomeOf numberIn lengthIn resultAfter workAfter zeros
+refused-answered c {r} z {a} e w =
+    let y = refused-early c r z in
+    record {
+      number-is = ap numbered e ∙ sym (ap numberIn (y .refuses));
+      length-is = ap lengthened e ∙ sym (ap lengthIn (y .refuses));
+      result-is = sym (ap (resultAfter (c .result)) (y .refuses) ∙ ap (λ b. cond b (c .result) (zeros (c .result))) (y .keeps));
+      work-is = w;
+    }
 
 -- ---- the work area's first part comes back, and all of it is cleared
 pub lent-length : (n : ℕ) (w y : List ℕ) → n ≤ length w → length y ≡ length (take n w) → length (y ++ drop n w) ≡ length w

@@ -1,36 +1,11 @@
-//! What a run answers: the length of its result, or why it is refused.
+//! Document 01's numbers of answers, each said once: that of a refusal.
 ghost use mathlib.Core.Path.{_≡_};
-ghost use Rattle.engine.specs.Refusal.{numberOf};
-ghost use Rattle.engine.specs.Answer.{numbered, lengthened};
-
-/// The refusals, in the order in which they are tested.
-pub enum Refusal {
-    /// The work area has under 65,536 bytes.
-    WorkShort,
-    /// The query has over 4,096 bytes.
-    QueryLong,
-    QueryMalformed,
-    /// The input has over 16,384 bytes.
-    InputLong,
-    /// Malformed, or a tree in it is too large.
-    InputMalformed,
-    /// The joined array has over 16,384 bytes.
-    JoinedLong,
-    /// Malformed, or a tree in it is too large.
-    JoinedMalformed,
-    /// A tree was too large in a stretch.
-    TreeLarge,
-    /// An array that enters a group has over 16,384 bytes.
-    GroupLong,
-    /// The last array has over 16,384 bytes, or more than the result area.
-    ResultLong,
-}
-
-/// The result has so many bytes; or there is none.
-pub enum Answer {
-    Accepted(usize),
-    Refused(Refusal),
-}
+ghost use Rattle.spec_run.specs.Refusal.{numberOf};
+ghost use Rattle.spec_run.specs.Answer.{numbered, lengthened};
+ghost use Rattle.engine.specs.Check.{checkedAs};
+use format::check::Check;
+use spec_run::answer::Answer;
+use spec_run::answer::Refusal;
 
 /// Document 01's number of a refusal.
 pub fn refusal_number(r: Refusal) -> u64
@@ -67,5 +42,16 @@ pub fn length(a: Answer) -> usize
     match a {
         Answer::Accepted(n) => n,
         Answer::Refused(_) => 0,
+    }
+}
+
+/// Document 01's number of a check: 0 if it accepts, else that of the refusal that it stands for.
+pub fn check_number(c: Check, long: Refusal, malformed: Refusal) -> u64
+    ensures { λ n. ⌜ n ≡ checkedAs c long malformed ⌝ }
+{
+    match c {
+        Check::Accepted => 0,
+        Check::Overlong => refusal_number(long),
+        Check::Malformed => refusal_number(malformed),
     }
 }

@@ -2,15 +2,15 @@
 ghost use mathlib.Core.Path.{_≡_};
 ghost use mathlib.Core.List.{_++_};
 ghost use lib.ListN.{length, replicate};
-ghost use Rattle.format.specs.Area.{headBytes};
+ghost use Rattle.areas.specs.Area.{headBytes};
 ghost use Rattle.engine.specs.Finish.{ArrayReady, AcceptReady, Accepts, FinishReady, Finishes};
-use crate::answer::Answer;
-use crate::answer::Refusal;
-use format::area::clear;
-use format::area::emit;
-use format::area::field_end;
-use format::area::put_head;
-use stream::sink::Map;
+use areas::area::clear;
+use areas::area::emit;
+use areas::area::field_end;
+use areas::area::put_head;
+use spec_run::answer::Answer;
+use spec_run::answer::Refusal;
+use stream::collector::Map;
 use stretches::ended::Ended;
 
 /// A refusal in or after the stages: the result area is zero.

@@ -1,6 +1,5 @@
-//! The engine's public calls. `specs/` has the plain run, which the streamed run answers as, and the theorems.
-pub mod admit;
+//! The public calls in Rattle. `spec_run` has the plain run, which the streamed run answers as, and the theorems.
 pub mod answer;
-pub mod finish;
-pub mod interface;
+mod check;
+mod finish;
 pub mod run;

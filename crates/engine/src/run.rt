@@ -1,23 +1,23 @@
-//! The run of a query over an input and a joined array, in areas that the caller lends. It needs nothing of them: any bytes
-//! and any lengths are answered.
+//! The run of a query over an input and a joined array, in areas that the caller lends. It needs nothing of them: any
+//! bytes and any lengths are answered.
 ghost use mathlib.Core.Path.{_≡_};
 ghost use mathlib.Core.Bool.{cond};
 ghost use lib.ListN.{length, replicate};
 ghost use lib.Dec.{leb};
-ghost use Rattle.stretches.specs.Ended.{Admitted};
-ghost use Rattle.engine.specs.Run.{ending, plainRun, workAfter};
-ghost use Rattle.engine.specs.Answer.{Answers};
+ghost use Rattle.stretches.specs.Ended.{Forms};
+ghost use Rattle.spec_run.specs.Run.{call};
+ghost use Rattle.spec_run.specs.Answer.{numbered, lengthened, Answered};
 ghost use Rattle.engine.specs.Perform.{Performs};
-use crate::admit::Admission;
-use crate::admit::admit;
-use crate::answer::Answer;
-use crate::answer::Refusal;
+use crate::check::CallCheck;
+use crate::check::check_call;
 use crate::finish::finish;
-use format::area::clear;
+use areas::area::clear;
 use format::limits::Limits;
+use spec_run::answer::Answer;
+use spec_run::answer::Refusal;
 use stretches::all::all;
 
-/// The stages of an admitted call, performed in 65,536 bytes of the work area, and its result.
+/// The stages of a call that passed its tests, performed in 65,536 bytes of the work area, and its result.
 fn perform<'a>(
     query: &'a [u8],
     input: &'a [u8],
@@ -25,7 +25,7 @@ fn perform<'a>(
     w: &mut [u8],
     result: &mut [u8],
 ) -> Answer
-    requires { ⌜ Admitted (now query) (now input) (now joined) × (length (now w) ≡ 65536) ⌝ }
+    requires { ⌜ Forms (now query) (now input) (now joined) × (length (now w) ≡ 65536) ⌝ }
     ensures { λ a. ⌜ Performs (now (query .entry)) (now (input .entry)) (now (joined .entry)) (now (result .entry)) (now (result .exit)) a ⌝ }
 {
     let r = all(query, input, joined, w);
@@ -43,8 +43,8 @@ fn refuse(r: Refusal, work: &mut [u8]) -> Answer
     Answer::Refused(r)
 }
 
-/// Runs the query. Its number, its length and the whole content of the result area are the plain run's. The work area is
-/// zero afterwards, over its whole length, unless the answer is 1: then it is as it was.
+/// Runs the query. Its number, its length and the whole content of the result area and of the work area are the plain
+/// run's of this call. The areas that are read never change.
 pub fn run<'a>(
     query: &'a [u8],
     input: &'a [u8],
@@ -52,16 +52,19 @@ pub fn run<'a>(
     work: &mut [u8],
     result: &mut [u8],
 ) -> Answer
-    ensures { λ a. ⌜ Answers a (now (result .exit)) (plainRun (now (query .entry)) (now (input .entry)) (now (joined .entry)) (length (now (work .entry))) (now (result .entry))) ⌝ }
-    ensures { λ _. ⌜ now (work .exit) ≡ workAfter (ending (now (query .entry)) (now (input .entry)) (now (joined .entry)) (length (now (work .entry))) (length (now (result .entry)))) (now (work .entry)) ⌝ }
+    ensures { λ a. ⌜
+        Answered
+        (call (now (query .entry)) (now (input .entry)) (now (joined .entry)) (now (work .entry)) (now (result .entry)))
+        (numbered a) (lengthened a) (now (result .exit)) (now (work .exit))
+        ⌝ }
 {
-    let admission = admit(query, input, joined, work.len());
-    match admission {
-        Admission::Admitted => {
+    let check = check_call(query, input, joined, work.len());
+    match check {
+        CallCheck::Passed => {
             let a = perform(query, input, joined, &mut work[..Limits::WORK], result);
             clear(work);
             a
         }
-        Admission::Refused(r) => refuse(r, work),
+        CallCheck::Refused(r) => refuse(r, work),
     }
 }

@@ -3,12 +3,12 @@ use mathlib.Core.List.{List}
 use mathlib.Core.Bool.{Bool, false}
 use Prim.Native.Nat.{ℕ}
 use lib.Dec.{ltb}
-use Rattle.format.specs.Options.{from, some?}
-use Rattle.format.specs.Lists.{each}
-use Rattle.format.specs.Tree.{Tree}
-use Rattle.format.specs.Bytes.{Field}
-use Rattle.format.specs.Readers.{inside, one, Tested, accepted, overlong, malformed}
-use Rattle.format.specs.Decode.{rootR, arrayWith, labelR, labelsWith, treeR, arrayR}
+use Rattle.spec_trees.specs.Options.{maybe, some?}
+use Rattle.spec_trees.specs.Lists.{each}
+use Rattle.spec_trees.specs.Tree.{Tree}
+use Rattle.spec_trees.specs.Bytes.{Field}
+use Rattle.spec_trees.specs.Readers.{inside, one, Tested, accepted, overlong, malformed}
+use Rattle.spec_trees.specs.Decode.{rootR, arrayWith, labelR, labelsWith, treeR, arrayR}
 use Rattle.format.specs.declared.check.Check.{Check}
 use Rattle.format.specs.declared.check.Check.the-variants.{Accepted, Overlong, Malformed}
 
@@ -27,7 +27,7 @@ arrayOk d f = some? (arrayWith (treeR d) f)
 
 -- a label field with a label above k
 unfoldable pub labelOk : ℕ → ℕ → Field → Bool
-labelOk d k f = from false (λ l. ltb k (l .0)) (labelR (treeR d) f)
+labelOk d k f = maybe false (λ l. ltb k (l .0)) (labelR (treeR d) f)
 
 -- ---- bytes
 -- tree fields
@@ -42,14 +42,8 @@ labelsOk d k b = some? (inside (labelsWith (treeR d) k) b)
 unfoldable pub inputOk : List ℕ → Bool
 inputOk b = some? (inside (one (λ a. a) arrayR) b)
 
--- ---- the answer of the public check
-abbrev pub arrayCheck : Tested (List Tree) → Check
-arrayCheck (accepted ts) = Accepted
-arrayCheck overlong = Overlong
-arrayCheck malformed = Malformed
-
--- document 01's number
-abbrev pub arrayNumber : Check → ℕ
-arrayNumber Accepted = 0
-arrayNumber Overlong = 4
-arrayNumber Malformed = 5
+-- ---- the answer of a public check of a lent piece, an array or a query
+abbrev pub checkOf : {A : Type 0} → Tested A → Check
+checkOf (accepted a) = Accepted
+checkOf overlong = Overlong
+checkOf malformed = Malformed

@@ -10,25 +10,25 @@ use lib.ListN.{length, getD}
 use lib.Seq.{slice, slice-cons, slice-empty, length-slice, take-length}
 use lib.Dec.{eqb, leb, ltb}
 use borrow.Author.Tests.{eq-eqb, ne-eqb, le-leb, lt-leb, lt-ltb, le-ltb}
-use Rattle.format.specs.Options.{_>>=_, only, from, some?}
-use Rattle.format.specs.Lists.{each}
-use Rattle.format.specs.Limits.{arrayMax, treeMax, depthMax, labelMax, textMax}
-use Rattle.format.specs.Tree.{Tree, isLabel}
-use Rattle.format.specs.Readers.{Reader, inside, one, chosen, among, tagged, emptied, accepted, overlong, wellFormed, tested}
-use Rattle.format.specs.Decode.{bit, rootR, arrayWith, labelC, labelR, labelsWith, treeC, treeR, arrayR, decodeArray, readArray}
-use Rattle.format.specs.Bytes
-use Rattle.format.specs.Readers
+use Rattle.spec_trees.specs.Options.{_>>=_, only, maybe, some?}
+use Rattle.spec_trees.specs.Lists.{each}
+use Rattle.spec_trees.specs.Limits.{arrayMax, treeMax, depthMax, labelMax, textMax}
+use Rattle.spec_trees.specs.Tree.{Tree, isLabel}
+use Rattle.spec_trees.specs.Readers.{Reader, inside, one, chosen, among, tagged, emptied, accepted, overlong, wellFormed, tested}
+use Rattle.spec_trees.specs.Decode.{bit, rootR, arrayWith, labelC, labelR, labelsWith, treeC, treeR, arrayR, decodeArray, readArray}
+use Rattle.spec_trees.specs.Bytes
+use Rattle.spec_trees.specs.Readers
 use Rattle.format.specs.declared.head.Head.the-variants.{Field, Nothing}
 use Rattle.format.specs.declared.check.Check.the-variants.{Accepted, Overlong, Malformed}
 use Rattle.format.specs.Labels.{labelAt}
 use Rattle.format.specs.Head.{headAt, spanAt}
-use Rattle.format.specs.Check.{rootOk, treeOk, arrayOk, labelOk, treesOk, labelsOk, inputOk, arrayCheck}
-use Rattle.format.specs.Bytes.{arrayBytes}
-use Rattle.format.specs.Within.{AllBytes, Within}
-use Rattle.format.specs.OptionLaws.{only-some, map-some, some-equal}
-use Rattle.format.specs.SizeLaws.{length-array}
-use Rattle.format.specs.ArrayLaws.{array-back, array-only}
-use Rattle.format.specs.ReaderLaws.{tagged-some}
+use Rattle.format.specs.Check.{rootOk, treeOk, arrayOk, labelOk, treesOk, labelsOk, inputOk, checkOf}
+use Rattle.spec_trees.specs.Bytes.{arrayBytes}
+use Rattle.spec_trees.specs.Within.{AllBytes, Within}
+use Rattle.spec_trees.specs.OptionLaws.{only-some, map-some, some-equal}
+use Rattle.spec_trees.specs.SizeLaws.{length-array}
+use Rattle.spec_trees.specs.ArrayLaws.{array-back, array-only}
+use Rattle.spec_trees.specs.ReaderLaws.{tagged-some}
 use Rattle.format.specs.HeadLaws.{some-map, head-found, inside-next, inside-bad, inside-nothing, inside-one, inside-end, inside-none, span-none}
 
 -- ---- roots
@@ -185,34 +185,34 @@ module _ (r : Reader (List Tree)) (j k : ℕ) where
   above : ℕ × List Tree → Bool
   above l = ltb k (l .0)
 
-  gate-map : (x : Option (List Tree)) → from false above (Option·map (λ a. (j, a)) x) ≡ ltb k j && some? (Option·map (λ a. a) x)
-  unfolding from some? above
+  gate-map : (x : Option (List Tree)) → maybe false above (Option·map (λ a. (j, a)) x) ≡ ltb k j && some? (Option·map (λ a. a) x)
+  unfolding maybe some? above
   gate-map none = sym (and-false (ltb k j))
   gate-map (some a) = sym (and-true (ltb k j))
 
-  gate : (o : Option (List Bytes.Field)) → from false above (o >>= one (λ a. (j, a)) r) ≡ ltb k j && some? (o >>= one (λ a. a) r)
-  unfolding from some? _>>=_ one
+  gate : (o : Option (List Bytes.Field)) → maybe false above (o >>= one (λ a. (j, a)) r) ≡ ltb k j && some? (o >>= one (λ a. a) r)
+  unfolding maybe some? _>>=_ one
   gate none = sym (and-false (ltb k j))
   gate (some []) = sym (and-false (ltb k j))
   gate (some (f ∷ [])) = gate-map (r f)
   gate (some (f ∷ f′ ∷ fs)) = sym (and-false (ltb k j))
 
-from-only : {A : Type 0} (g : A → Bool) (b : Bool) (x : Option A) → from false g (only b x) ≡ b && from false g x
-unfolding from only
-from-only g true x = refl
-from-only g false x = refl
+maybe-only : {A : Type 0} (g : A → Bool) (b : Bool) (x : Option A) → maybe false g (only b x) ≡ b && maybe false g x
+unfolding maybe only
+maybe-only g true x = refl
+maybe-only g false x = refl
 
 -- the three tests
 label-tests : (d k j : ℕ) (b : List ℕ) → labelOk d k (7, j ∷ b) ≡ isLabel j && (ltb k j && spanOk d b)
 unfolding labelOk labelR labelC tagged only spanOk inside above
-label-tests d k j b = from-only _ (isLabel j) _ ∙ ap (λ x. isLabel j && x) (gate (arrayWith (treeR d)) j k (Readers.fields b))
+label-tests d k j b = maybe-only _ (isLabel j) _ ∙ ap (λ x. isLabel j && x) (gate (arrayWith (treeR d)) j k (Readers.fields b))
 
 pub label-tag : (d k t : ℕ) (c : List ℕ) → (t ≡ 7 → ⊥) → labelOk d k (t, c) ≡ false
-unfolding labelOk labelR tagged only from
+unfolding labelOk labelR tagged only maybe
 label-tag d k t c n = rw (ne-eqb t 7 n) refl
 
 label-no-content : (d k t : ℕ) (b : Bool) → eqb t 7 ≡ b → labelOk d k (t, []) ≡ false
-unfolding labelOk labelR labelC tagged only from
+unfolding labelOk labelR labelC tagged only maybe
 label-no-content d k t true e = rw e refl
 label-no-content d k t false e = rw e refl
 
@@ -272,18 +272,18 @@ record Label (d k t : ℕ) (c : List ℕ) : Type 0 where
   room : 0 < length c
 
 label-read : (d k t : ℕ) (c : List ℕ) → labelOk d k (t, c) ≡ true → Label d k t c
-unfolding labelOk labelR from
+unfolding labelOk labelR maybe
 label-read d k t c h = go (labelR (treeR d) (t, c)) refl h
   where
-    go : (x : Option (ℕ × List Tree)) → labelR (treeR d) (t, c) ≡ x → from false (λ l. ltb k (l .0)) x ≡ true → Label d k t c
+    go : (x : Option (ℕ × List Tree)) → labelR (treeR d) (t, c) ≡ x → maybe false (λ l. ltb k (l .0)) x ≡ true → Label d k t c
     go none e h = let z : _≡_ {A = ℕ} 0 1 = cc in absurd (omega arith)
     go (some l) e h =
         let u = name-content (treeR d) c l (tagged-some 7 (labelC (treeR d)) (t, c) l e .1) in
         record { l = l; reads = e; name = u .0; rises = h; room = u .1 }
 
-labels-on : (d k : ℕ) (f : Bytes.Field) (fs : List Bytes.Field) (x : Option (ℕ × List Tree)) → labelR (treeR d) f ≡ x → from false (λ l. ltb k (l .0)) x ≡ false
+labels-on : (d k : ℕ) (f : Bytes.Field) (fs : List Bytes.Field) (x : Option (ℕ × List Tree)) → labelR (treeR d) f ≡ x → maybe false (λ l. ltb k (l .0)) x ≡ false
     → some? (labelsWith (treeR d) k (f ∷ fs)) ≡ false
-unfolding labelsWith from _>>=_ only some?
+unfolding labelsWith maybe _>>=_ only some?
 labels-on d k f fs none e h = rw e refl
 labels-on d k f fs (some l) e h = rw (e, h) refl
 
@@ -334,30 +334,30 @@ array-trees d t c e = rw (eq-eqb t 1 e) refl
 whole : (b : List ℕ) → slice 0 (length b) b ≡ b
 whole b = take-length b
 
-pub array-over : (b : List ℕ) → arrayMax < length b → arrayCheck (readArray b) ≡ Overlong
+pub array-over : (b : List ℕ) → arrayMax < length b → checkOf (readArray b) ≡ Overlong
 unfolding readArray tested
 array-over b l = rw (lt-leb (length b) arrayMax l) refl
 
-check-some : (x : Option (List Tree)) → some? x ≡ true → arrayCheck (wellFormed x) ≡ Accepted
+pub check-some : {A : Type 0} (x : Option A) → some? x ≡ true → checkOf (wellFormed x) ≡ Accepted
 unfolding some? wellFormed
 check-some none h = let z : _≡_ {A = ℕ} 0 1 = cc in absurd (omega arith)
 check-some (some ts) h = refl
 
-check-none : (x : Option (List Tree)) → some? x ≡ false → arrayCheck (wellFormed x) ≡ Malformed
+pub check-none : {A : Type 0} (x : Option A) → some? x ≡ false → checkOf (wellFormed x) ≡ Malformed
 unfolding some? wellFormed
 check-none none h = refl
 check-none (some ts) h = let z : _≡_ {A = ℕ} 0 1 = cc in absurd (omega arith)
 
 module _ (b : List ℕ) (fits : length b ≤ arrayMax) where
-  checked : arrayCheck (readArray b) ≡ arrayCheck (wellFormed (inside (one (λ a. a) arrayR) b))
+  checked : checkOf (readArray b) ≡ checkOf (wellFormed (inside (one (λ a. a) arrayR) b))
   unfolding readArray tested decodeArray only
   checked = rw (le-leb (length b) arrayMax fits) refl
 
-  pub array-accepted : inputOk b ≡ true → arrayCheck (readArray b) ≡ Accepted
+  pub array-accepted : inputOk b ≡ true → checkOf (readArray b) ≡ Accepted
   unfolding inputOk
   array-accepted k = checked ∙ check-some _ k
 
-  pub array-malformed : inputOk b ≡ false → arrayCheck (readArray b) ≡ Malformed
+  pub array-malformed : inputOk b ≡ false → checkOf (readArray b) ≡ Malformed
   unfolding inputOk
   array-malformed k = checked ∙ check-none _ k
 
@@ -374,38 +374,3 @@ module _ (b : List ℕ) where
   pub input-nothing : spanAt b 0 (length b) ≡ Nothing → inputOk b ≡ false
   unfolding some?
   input-nothing h = input-whole ∙ ap some? (span-none b 0 (length b) (omega arith) (λ a. a) arrayR (omega arith) h)
-
--- ---- what an accepted array is
--- the trees of these bytes: there are some within the limits, and no others
-pub record TheTrees (b : List ℕ) : Type 0 where
-  pub ts : List Tree
-  pub reads : readArray b ≡ accepted ts
-  pub within : Within ts
-  pub form : arrayBytes ts ≡ b
-  pub unique : (us : List Tree) → Within us → arrayBytes us ≡ b → us ≡ ts
-
-accepted-some : (b : List ℕ) (x : Option (List Tree)) (c : Bool) → arrayCheck (cond c (wellFormed x) overlong) ≡ Accepted → (ts : List Tree) × (x ≡ some ts) × (cond c (wellFormed x) overlong ≡ accepted ts)
-unfolding wellFormed
-accepted-some b none true h = let z : _≡_ {A = ℕ} 0 1 = cc in absurd (omega arith)
-accepted-some b (some ts) true h = (ts, refl, refl)
-accepted-some b x false h = let z : _≡_ {A = ℕ} 0 1 = cc in absurd (omega arith)
-
-pub accepted-trees : (b : List ℕ) → AllBytes b → arrayCheck (readArray b) ≡ Accepted → TheTrees b
-unfolding readArray tested
-accepted-trees b all h =
-    let (ts, e, r) = accepted-some b (decodeArray b) (leb (length b) arrayMax) h in
-    let p = array-only b ts all e in
-    record {
-      ts = ts;
-      reads = r;
-      within = p .1;
-      form = p .0;
-      unique = λ us w q. some-equal us ts (sym (array-back us w) ∙ (ap decodeArray q ∙ e));
-    }
-
--- and no array within the limits is refused
-pub trees-accepted : (ts : List Tree) → Within ts → arrayCheck (readArray (arrayBytes ts)) ≡ Accepted
-unfolding readArray tested wellFormed
-trees-accepted ts w =
-    let l : length (arrayBytes ts) ≤ arrayMax = omega (arith, length-array ts, w .small) in
-    rw (le-leb (length (arrayBytes ts)) arrayMax l, array-back ts w) refl

@@ -6,11 +6,11 @@ use Prim.Native.Nat.{ℕ, suc, _+_, _*_, _-_, _/_, _≤_, _<_, max}
 use native.Mathlib.Omega.{arith}
 use lib.Dec.{leb, eqb}
 use borrow.Author.Tests.{le-leb, lt-leb, leb-true, leb-false, eqb-true, eqb-false}
-use Rattle.format.specs.Tree.{Root, void, boolean, integer, text, Tree, node, Trees, ε, _▹_, Labels, bare, label, labels}
-use Rattle.format.specs.Size.{rootSize, size, sizeA, sizeL, depth, depthA, depthL}
-use Rattle.format.specs.SizeLaws.{length-treeFs}
-use Rattle.format.specs.Bytes.{treeBytes}
-use Rattle.format.specs.Area.{Is, fieldEnd}
+use Rattle.spec_trees.specs.Tree.{Root, void, boolean, integer, text, Tree, node, Trees, ε, _▹_, Labels, bare, label, labels}
+use Rattle.spec_trees.specs.Size.{rootSize, size, sizeA, sizeL, depth, depthA, depthL}
+use Rattle.spec_trees.specs.SizeLaws.{length-treeFs}
+use Rattle.spec_trees.specs.Bytes.{treeBytes}
+use Rattle.areas.specs.Area.{Is, fieldEnd}
 use Rattle.format.specs.Stand.{treesBytes, labelsBytes, Says}
 use Rattle.format.specs.StandLaws.{tree-parts, labels-parts, labels-none, trees-parts, trees-none, is-alone}
 
@@ -38,7 +38,8 @@ tree-level : (t : Tree) → 0 < depth t
 unfolding depth
 tree-level (node r ls) = omega arith
 
--- ---- a level takes 13 bytes or more: the heads of a tree, of its root, of a label and of its array, and the label; the last
+-- ---- a level takes 13 bytes or more: the heads of a tree, of its root, of a label and of its array, and the label;
+-- the last
 -- of them takes 6
 root-bytes : (r : Root) → 3 ≤ rootSize r
 unfolding rootSize
@@ -133,6 +134,3 @@ module _ (s : List ℕ) (left p e : ℕ) where
           j (a .others) (a .others-is) ∙ sym (labels-first ls h ∙ ap (λ x. x && leb (depthL (a .others)) left) q)
 
 -- ---- a tree alone
-pub tree-says : (s : List ℕ) (left p e : ℕ) {r : Bool} → TreesSay s left p e r → Says treeBytes (λ t. leb (depth t) left) s p e r
-unfolding depth
-tree-says s left p e k t h = let q : max (depth t) 0 ≡ depth t = omega arith in k (t ▹ ε) (is-alone t h) ∙ ap (λ n. leb n left) q

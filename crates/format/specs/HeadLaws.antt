@@ -12,10 +12,10 @@ use lib.ListN.{length, take, drop, getD, length-drop}
 use lib.Seq.{slice, slice-cons, slice-empty, length-slice, drop-drop, take-take, take-add, drop-at, length-take-le}
 use lib.Dec.{leb, eqb}
 use borrow.Author.Tests.{leb-true, eqb-true, eqb-false, eq-eqb, ne-eqb}
-use Rattle.format.specs.Options.{_>>=_, only, some?}
-use Rattle.format.specs.Readers.{split, fields, inside, one, Reader}
-use Rattle.format.specs.Bytes
-use Rattle.format.specs.OptionLaws.{leb-yes, leb-no}
+use Rattle.spec_trees.specs.Options.{_>>=_, only, some?}
+use Rattle.spec_trees.specs.Readers.{split, fields, inside, one, Reader}
+use Rattle.spec_trees.specs.Bytes
+use Rattle.spec_trees.specs.OptionLaws.{leb-yes, leb-no}
 use Rattle.format.specs.declared.head.Head.{Head}
 use Rattle.format.specs.declared.head.Head.the-variants.{Field, Nothing}
 use Rattle.format.specs.Head.{lenAt, firstField, headAt, endsAt, spanAt}
@@ -124,7 +124,7 @@ module _ (s : List ℕ) (at end : ℕ) (inside : end ≤ length s) where
     head-field h = rw (three-at (omega arith), leb-yes (lenAt s at) (length (slice (at + 3) end s)) (omega (arith, length-slice (at + 3) end s inside)), e) refl
 
 -- ---- what a head that was read says
-pub record Found (s : List ℕ) (at end t f e : ℕ) : Type 0 where
+pub record FieldFound (s : List ℕ) (at end t f e : ℕ) : Type 0 where
   pub tag : getD s at 0 ≡ t
   pub start : f ≡ at + 3
   pub order : f ≤ e
@@ -141,7 +141,7 @@ module _ (s : List ℕ) (at end f m e : ℕ) (inside : end ≤ length s) (p : f 
   behind = ap (drop m) (drop-slice 3 at end s) ∙ (drop-slice m (at + 3) end s ∙ ap (λ i. slice i end s) (sym q))
 
 module _ (s : List ℕ) (at end : ℕ) (inside : end ≤ length s) where
-  found : (t f e : ℕ) → First at (slice at end s) t f e → Found s at end t f e
+  found : (t f e : ℕ) → First at (slice at end s) t f e → FieldFound s at end t f e
   found t f e q =
       let n = q .room in
       let r : 3 + q .m ≤ end - at = rw (length-slice at end s inside) at n in
@@ -154,7 +154,7 @@ module _ (s : List ℕ) (at end : ℕ) (inside : end ≤ length s) where
         reads = q .reads ∙ ap₂ (λ c o. Option·map (λ fs. (t, c) ∷ fs) (fields o)) (content s at end f (q .m) e inside (q .start) (q .stop) l) (behind s at end f (q .m) e inside (q .start) (q .stop) l);
       }
 
-  pub head-found : (t f e : ℕ) → headAt s at end ≡ Field t f e → Found s at end t f e
+  pub head-found : (t f e : ℕ) → headAt s at end ≡ Field t f e → FieldFound s at end t f e
   unfolding headAt
   head-found t f e h = found t f e (first-found at (slice at end s) t f e h)
 

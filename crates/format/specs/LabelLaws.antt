@@ -7,14 +7,14 @@ use native.Mathlib.Nat.{add-assoc}
 use native.Mathlib.Omega.{arith}
 use lib.ListN.{length, set, length-set}
 use borrow.Author.Tests.{eq-eqb, ne-eqb}
-use Rattle.format.specs.declared.area.Out.{Out}
-use Rattle.format.specs.declared.area.Out.the-variants.{At, TooLarge}
+use Rattle.areas.specs.declared.area.Out.{Out}
+use Rattle.areas.specs.declared.area.Out.the-variants.{At, TooLarge}
 use Rattle.format.specs.declared.labels.Found.{Found}
 use Rattle.format.specs.declared.labels.Found.the-variants.{Part, Missing}
-use Rattle.format.specs.Tree.{Tree, Trees, Labels, label, list, find}
-use Rattle.format.specs.Bytes.{fieldBytes}
-use Rattle.format.specs.Area.{Wrote, headBytes, fieldEnd}
-use Rattle.format.specs.AreaLaws.{finish-at, fail-back, byte-before}
+use Rattle.spec_trees.specs.Tree.{Tree, Trees, Labels, label, list, find}
+use Rattle.spec_trees.specs.Bytes.{fieldBytes}
+use Rattle.areas.specs.Area.{Wrote, headBytes, fieldEnd}
+use Rattle.areas.specs.AreaLaws.{finish-at, fail-back, byte-before}
 use Rattle.format.specs.Labels.{labelAt}
 use Rattle.format.specs.Stand.{treesBytes, labelsBytes, Holds, ArrayIs, FoundIs, Finds, LabelFinished}
 use Rattle.format.specs.StandLaws.{labels-parts, labels-none}

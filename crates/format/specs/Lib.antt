@@ -1,15 +1,4 @@
 -- Definitions.
-pub mod Options
-pub mod Lists
-pub mod Limits
-pub mod Tree
-pub mod Size
-pub mod Bytes
-pub mod Readers
-pub mod Decode
-pub mod Within
-pub mod Area
-pub mod Compare
 pub mod Stand
 pub mod Named
 pub mod Labels
@@ -17,18 +6,8 @@ pub mod Head
 pub mod View
 pub mod Check
 -- Laws.
-pub mod OptionLaws
-pub mod ListLaws
-pub mod FieldLaws
-pub mod ReaderLaws
-pub mod NumberLaws
-pub mod SizeLaws
-pub mod ArrayLaws
-pub mod AreaLaws
-pub mod CompareLaws
 pub mod StandLaws
 pub mod LabelLaws
 pub mod DepthLaws
 pub mod HeadLaws
 pub mod CheckLaws
-pub mod Examples

@@ -1,6 +1,7 @@
--- The limits as the code's record of them: `limits::all` answers this, which ties each constant of the code to its number.
+-- The limits as the code's record of them: `limits::all` answers this, which ties each constant of the code to its
+-- number.
 use Rattle.format.specs.declared.limits.Named.{Named}
-use Rattle.format.specs.Limits.{arrayMax, treeMax, queryMax, depthMax, labelMax, textMax, pathMax, nestMax, stagesMax, itemsMax, membersMax, aggregatesMax, groupingMax, divisorMax, workMin}
+use Rattle.spec_trees.specs.Limits.{arrayMax, treeMax, queryMax, depthMax, labelMax, textMax, pathMax, nestMax, stagesMax, itemsMax, membersMax, aggregatesMax, groupingMax, divisorMax, workMin}
 
 abbrev pub named : Named
 named = record {

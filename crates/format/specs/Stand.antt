@@ -3,13 +3,13 @@ use mathlib.Core.Path.{_≡_}
 use mathlib.Core.List.{List, _∷_}
 use mathlib.Core.Option.{Option, none, some}
 use Prim.Native.Nat.{ℕ, _+_, _≤_}
-use lib.ListN.{length, getD}
-use Rattle.format.specs.declared.area.Out.{Out}
+use lib.ListN.{length}
+use Rattle.areas.specs.declared.area.Out.{Out}
 use Rattle.format.specs.declared.labels.Found.{Found}
 use Rattle.format.specs.declared.labels.Found.the-variants.{Part, Missing}
-use Rattle.format.specs.Tree.{Root, Tree, Trees, Labels, list, find}
-use Rattle.format.specs.Bytes.{fieldBytes, bytes, rootF, treeFs, labelFs}
-use Rattle.format.specs.Area.{Is, Wrote}
+use Rattle.spec_trees.specs.Tree.{Root, Tree, Trees, Labels, list, find}
+use Rattle.spec_trees.specs.Bytes.{fieldBytes, bytes, rootF, treeFs, labelFs}
+use Rattle.areas.specs.Area.{Is, Wrote}
 
 -- ---- the bytes of a tree's parts: its root, its labels, one label with its array, the trees of an array
 abbrev pub rootBytes : Root → List ℕ

@@ -1,15 +1,15 @@
--- Laws that take apart what stands in an area: a tree's root and labels, a first label and the others, a label's array, a
--- first tree and the rest.
+-- Laws that take apart what stands in an area: a tree's root and labels, a first label and the others, a label's
+-- array, a first tree and the rest.
 use mathlib.Core.Path.{_≡_, refl, sym, subst, _∙_}
 use mathlib.Core.List.{List, _∷_}
 use Prim.Native.Nat.{ℕ, _+_, _≤_}
 use native.Mathlib.Omega.{arith}
 use lib.ListN.{length, length-append}
-use Rattle.format.specs.Tree.{Tree, node, Trees, ε, _▹_, Labels, bare, label, root, labels}
-use Rattle.format.specs.Bytes.{Field, fieldBytes, bytes, rootF, treeF, treeFs, labelFs, treeBytes}
-use Rattle.format.specs.FieldLaws.{bytes-one}
-use Rattle.format.specs.Area.{Is, fieldEnd}
-use Rattle.format.specs.AreaLaws.{is-left, is-right, is-head, is-tail, is-content, is-field-end, length-field}
+use Rattle.spec_trees.specs.Tree.{Tree, node, Trees, ε, _▹_, Labels, bare, label, root, labels}
+use Rattle.spec_trees.specs.Bytes.{Field, fieldBytes, bytes, rootF, treeF, treeFs, labelFs, treeBytes}
+use Rattle.spec_trees.specs.FieldLaws.{bytes-one}
+use Rattle.areas.specs.Area.{Is, fieldEnd}
+use Rattle.areas.specs.AreaLaws.{is-left, is-right, is-head, is-tail, is-content, is-field-end, length-field}
 use Rattle.format.specs.Labels.{labelAt}
 use Rattle.format.specs.Stand.{rootBytes, labelsBytes, treesBytes, entryBytes, Holds}
 
@@ -125,9 +125,6 @@ is-alone {s} {p} {e} t h = subst (λ b. Is s p e b) (sym (bytes-one (treeF t))) 
 module _ {s : List ℕ} {p e : ℕ} (h : Holds treeBytes s p e) where
   pub tree-places : {l : ℕ} → l ≡ fieldEnd s (p + 3) → (p + 6 ≤ l) × (l ≤ e) × (e ≤ length s)
   tree-places g = let a = tree-parts (h .value) g (h .value-is) in (a .after, a .within, h .value-is .inside)
-
-  pub holds-alone : Holds treesBytes s p e
-  holds-alone = record { value = h .value ▹ ε; value-is = is-alone (h .value) (h .value-is) }
 
   pub holds-labels : {l : ℕ} → l ≡ fieldEnd s (p + 3) → Holds labelsBytes s l e
   holds-labels g = record { value = labels (h .value); value-is = tree-parts (h .value) g (h .value-is) .labels-is }

@@ -12,10 +12,10 @@ ghost use mathlib.Core.Path.{_≡_};
 ghost use Prim.Native.Nat.{_+_, _≤_};
 ghost use lib.ListN.{length};
 ghost use lib.Seq.{slice};
-ghost use Rattle.format.specs.Check.{rootOk, treeOk, arrayOk, labelOk, treesOk, labelsOk, inputOk, arrayCheck, arrayNumber};
-ghost use Rattle.format.specs.Decode.{readArray};
+ghost use Rattle.format.specs.Check.{rootOk, treeOk, arrayOk, labelOk, treesOk, labelsOk, inputOk, checkOf};
+ghost use Rattle.spec_trees.specs.Decode.{readArray};
 
-/// What the check of a lent array comes to. Document 01's numbers for an input: 0, 4 and 5.
+/// What the check of a lent piece, an array or a query, comes to.
 pub enum Check {
     Accepted,
     Overlong,
@@ -197,7 +197,7 @@ fn check_input(bytes: &[u8]) -> bool
 
 /// The public check of a lent array, on any bytes: over its limit first, then malformed, tree limits included.
 pub fn check_array(bytes: &[u8]) -> Check
-    ensures { λ r. ⌜ r ≡ arrayCheck (readArray (now (bytes .entry))) ⌝ }
+    ensures { λ r. ⌜ r ≡ checkOf (readArray (now (bytes .entry))) ⌝ }
 {
     if Limits::ARRAY < bytes.len() {
         return Check::Overlong;
@@ -206,15 +206,4 @@ pub fn check_array(bytes: &[u8]) -> Check
         return Check::Malformed;
     }
     Check::Accepted
-}
-
-/// Document 01's number of an answer.
-pub fn array_number(c: Check) -> u64
-    ensures { λ r. ⌜ r ≡ arrayNumber c ⌝ }
-{
-    match c {
-        Check::Accepted => 0,
-        Check::Overlong => 4,
-        Check::Malformed => 5,
-    }
 }

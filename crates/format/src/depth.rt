@@ -1,12 +1,12 @@
-//! How deep trees are, measured where they stand: a tree alone has depth 1, and those under a label are one deeper. A level
-//! takes 13 bytes or more, so that few bytes need no walk.
+//! How deep trees are, measured where they stand: a tree alone has depth 1, and those under a label are one deeper. A
+//! level takes 13 bytes or more, so that few bytes need no walk.
 ghost use lib.Dec.{leb};
-ghost use Rattle.format.specs.Size.{depthA, depthL};
+ghost use Rattle.spec_trees.specs.Size.{depthA, depthL};
 ghost use Rattle.format.specs.Stand.{treesBytes, labelsBytes, Holds, Says};
-use crate::area::field_end;
+use areas::area::field_end;
 
-/// The bytes of a level: the heads of a tree, of its root, of a label and of its array, and the label. The last level takes 7
-/// bytes less.
+/// The bytes of a level: the heads of a tree, of its root, of a label and of its array, and the label. The last level
+/// takes 7 bytes less.
 const LEVEL: usize = 13;
 
 /// Whether the trees that stand from p to e take at most `left` levels. Most have too few bytes for more.

@@ -3,13 +3,7 @@ ghost use mathlib.Core.Path.{_≡_};
 ghost use Prim.Native.Nat.{_+_, _*_, _≤_, _<_};
 ghost use lib.ListN.{length};
 ghost use Rattle.format.specs.Head.{headAt, lenAt, spanAt};
-
-/// A byte as an index or a length.
-pub fn wide(x: u8) -> usize
-    ensures { λ r. ⌜ (r ≡ x) × (r < 256) ⌝ }
-{
-    x as usize
-}
+use areas::number::wide;
 
 /// What stands at a place: a field, with its tag and where its content begins and ends; or none that is whole.
 pub enum Head {

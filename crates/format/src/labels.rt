@@ -1,14 +1,14 @@
 //! The labels of a tree.
 ghost use mathlib.Core.Path.{_≡_};
-ghost use Prim.Native.Nat.{_+_, _≤_, _<_};
+ghost use Prim.Native.Nat.{_+_, _≤_};
 ghost use lib.ListN.{length};
-ghost use Rattle.format.specs.Limits.{labelMax};
-ghost use Rattle.format.specs.Area.{Finishable};
+ghost use Rattle.spec_trees.specs.Limits.{labelMax};
+ghost use Rattle.areas.specs.Area.{Finishable};
 ghost use Rattle.format.specs.Labels.{labelAt};
 ghost use Rattle.format.specs.Stand.{labelsBytes, Holds, Finds, LabelFinished};
-use crate::area::Out;
-use crate::area::field_end;
-use crate::area::put_head;
+use areas::area::Out;
+use areas::area::field_end;
+use areas::area::put_head;
 
 /// Where the trees of a label's array stand, or that the label is missing.
 pub enum Found {
@@ -40,8 +40,8 @@ pub fn find(s: &[u8], p: usize, e: usize, k: u16) -> Found
     Found::Missing
 }
 
-/// Stores what stands before the trees of a label's array, which were written from d + 7 on with the answer r, unless they
-/// did not fit: the array's head, the label, and its head. Every label is written here.
+/// Stores what stands before the trees of a label's array, which were written from d + 7 on with the answer r, unless
+/// they did not fit: the array's head, the label, and its head. Every label is written here.
 pub fn finish_label(w: &mut [u8], d: usize, k: u16, r: Out) -> Out
     requires { ⌜ Finishable (now w) (d + 4) r × (k ≤ labelMax) × (length (now w) ≤ 65536) ⌝ }
     ensures { λ q. ⌜ LabelFinished (now (w .entry)) (now (w .exit)) d k r q ⌝ }

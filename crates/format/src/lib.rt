@@ -1,8 +1,5 @@
-//! The field format: fields, trees and arrays as bytes.
-//! What a reader must believe stands in `specs/`; the files here are one idea each.
-pub mod area;
+//! The field-format crate: fields, trees and arrays as bytes. One idea in each file.
 pub mod check;
-pub mod compare;
 pub mod depth;
 pub mod head;
 pub mod labels;

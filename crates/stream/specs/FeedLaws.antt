@@ -5,48 +5,48 @@ use mathlib.Core.Bool.{Bool, true, false, cond}
 use Prim.Native.Nat.{ℕ, suc, _+_, _-_, _≤_}
 use native.Mathlib.Omega.{arith}
 use lib.ListN.{length}
-use Rattle.format.specs.declared.area.Out.{Out}
-use Rattle.format.specs.declared.area.Out.the-variants.{At, TooLarge}
-use Rattle.format.specs.Lists.{All}
-use Rattle.format.specs.Limits.{treeMax, depthMax, nestMax}
-use Rattle.format.specs.Tree.{Tree}
-use Rattle.format.specs.Bytes.{treeBytes}
-use Rattle.format.specs.SizeLaws.{length-tree}
-use Rattle.format.specs.Within.{Allowed, AllowedA}
-use Rattle.format.specs.Area.{Is, fieldEnd}
+use Rattle.areas.specs.declared.area.Out.{Out}
+use Rattle.areas.specs.declared.area.Out.the-variants.{At, TooLarge}
+use Rattle.spec_trees.specs.Lists.{All}
+use Rattle.spec_trees.specs.Limits.{treeMax, depthMax, nestMax}
+use Rattle.spec_trees.specs.Tree.{Tree}
+use Rattle.spec_trees.specs.Bytes.{treeBytes}
+use Rattle.spec_trees.specs.SizeLaws.{length-tree}
+use Rattle.spec_trees.specs.Within.{Allowed, AllowedA}
+use Rattle.areas.specs.Area.{Is, fieldEnd}
 use Rattle.format.specs.Stand.{Holds}
-use Rattle.query.specs.Query.{Path, Criterion, Item, Stage, match, unwind, project, lookup}
-use Rattle.query.specs.Rules.{OkP, OkP⁺, OkS, NestedC}
-use Rattle.query.specs.Bytes.{stageF}
-use Rattle.query.specs.Places.{pathBytes, criterionBytes, itemsBytes, stageBytes, OnePart, ThreeParts, ReadsStage}
-use Rattle.query.specs.PartLaws.{list-parts, list-none}
-use Rattle.query.specs.declared.stage.StageAt.{StageAt}
-use Rattle.stages.specs.Stages.{isGroup, going, large, step, stages}
-use Rattle.reading.specs.Meets.{Evaluable, Meets}
-use Rattle.reading.specs.Walk.{given}
-use Rattle.reading.specs.ComparedLaws.{one-bytes}
-use Rattle.making.specs.Project.{ProjectReady, Projects}
-use Rattle.making.specs.Lookup.{LookupReady, Looks}
-use Rattle.stream.specs.declared.sink.Sink.{Sink}
-use Rattle.stream.specs.declared.sink.Sink.the-variants.{Large}
-use Rattle.stream.specs.Stretch.{before}
-use Rattle.stream.specs.StretchLaws.{before-next, before-group, before-none, before-free}
-use Rattle.stream.specs.Sink.{ends, Collects, Fed, Feeds, CollectReady, Collected}
-use Rattle.stream.specs.SinkLaws.{feeds-none, feeds-large, feeds-lent, feeds-move}
+use Rattle.spec_queries.specs.Query.{Path, Criterion, Item, Stage, match, unwind, project, lookup}
+use Rattle.spec_queries.specs.Rules.{OkP, OkP⁺, OkS, NestedC}
+use Rattle.spec_queries.specs.Bytes.{stageF}
+use Rattle.queries.specs.Places.{pathBytes, criterionBytes, itemsBytes, stageBytes, OnePart, ThreeParts, ReadsStage}
+use Rattle.queries.specs.PartLaws.{list-parts, list-none}
+use Rattle.queries.specs.declared.stage.StageAt.{StageAt}
+use Rattle.spec_stages.specs.Stages.{isGroup, going, large, step, stages}
+use Rattle.criteria.specs.Meets.{Evaluable, Meets}
+use Rattle.paths.specs.Walk.{given}
+use Rattle.paths.specs.ComparedLaws.{one-bytes}
+use Rattle.project.specs.Project.{ProjectReady, Projects}
+use Rattle.lookup.specs.Lookup.{LookupReady, Looks}
+use Rattle.stream.specs.declared.collector.Collector.{Collector}
+use Rattle.stream.specs.declared.collector.Collector.the-variants.{Large}
+use Rattle.spec_stages.specs.Stretch.{before}
+use Rattle.spec_stages.specs.StretchLaws.{before-next, before-group, before-none, before-free}
+use Rattle.stream.specs.Collector.{ends, Collects, Fed, Feeds, CollectReady, Collected}
+use Rattle.stream.specs.CollectorLaws.{feeds-none, feeds-large, feeds-lent, feeds-move}
 use Rattle.stream.specs.Tails.{tail, lent}
 use Rattle.stream.specs.TailLaws.{tail-length, tail-is, ends-beyond}
-use Rattle.stream.specs.StageLaws.{step-match, step-project, project-none, step-lookup, lookup-none, step-allowed}
+use Rattle.spec_stages.specs.StageLaws.{step-match, step-project, project-none, step-lookup, lookup-none, step-allowed}
 use Rattle.stream.specs.Feed.{Planned, Front, Feeding, FeedReady, FeedPost, OkItems, PartReady, PartPost, JoinReady, JoinPost}
 
 -- ---- the tree at the front
 pub front-fits : {t : List ℕ} {te : ℕ} {x : Tree} → Front t te x → te ≤ treeMax
 front-fits {x = x} h = omega (arith, h .tree-is .ends, length-tree x, h .allowed .small)
 
-pub collect-ready : {n : ℕ} {t : List ℕ} {te : ℕ} {q : List ℕ} {p e : ℕ} {j : List ℕ} {s : Sink} → 27988 ≤ n → Feeding n t te q p e j s → CollectReady t te s
+pub collect-ready : {n : ℕ} {t : List ℕ} {te : ℕ} {q : List ℕ} {p e : ℕ} {j : List ℕ} {s : Collector} → 27988 ≤ n → Feeding n t te q p e j s → CollectReady t te s
 collect-ready b h = record { fits = front-fits (h .front); wide = omega (arith, h .room); small = h .small; goes = h .goes }
 
 -- it leaves the last stage
-collected-tree : (t v : List ℕ) (te : ℕ) (s r : Sink) (us : List Tree) (x : Tree) → Collected t v te s r → Front t te x → Feeds t s v r (stages us [] (going (x ∷ [])))
+collected-tree : (t v : List ℕ) (te : ℕ) (s r : Collector) (us : List Tree) (x : Tree) → Collected t v te s r → Front t te x → Feeds t s v r (stages us [] (going (x ∷ [])))
 unfolding Fed stages given
 collected-tree t v te s r us x k f = record { fed = λ xs h. subst (λ (l : List ℕ). Collects v r (xs ++ l)) (one-bytes x) (k .taken (treeBytes x) xs (f .tree-is) h) }
 
@@ -77,7 +77,7 @@ planned-rest {ss = ss} n g h =
     }
 
 -- no stage is left
-pub feed-end : {t v : List ℕ} {te : ℕ} {q : List ℕ} {p e : ℕ} {j : List ℕ} {s r : Sink} → p ≡ e → Collected t v te s r → FeedPost t v te q p e j s r
+pub feed-end : {t v : List ℕ} {te : ℕ} {q : List ℕ} {p e : ℕ} {j : List ℕ} {s r : Collector} → p ≡ e → Collected t v te s r → FeedPost t v te q p e j s r
 feed-end {t} {v} {te} {s = s} {r = r} z k ss us x h f =
     subst (λ l. Feeds t s v r (stages us l (going (x ∷ [])))) (sym (ap before (list-none stageF ss z (h .stages-is)) ∙ before-none)) (collected-tree t v te s r us x k f)
 
@@ -88,7 +88,7 @@ lookup-plain z = ap isGroup z
 lookup-ok : {x : Stage} {a b c : Path} → x ≡ lookup a b c → OkS x → OkP a × OkP b × OkP⁺ c
 lookup-ok z o = subst OkS z o
 
-module _ {t : List ℕ} {te : ℕ} {q : List ℕ} {p m e : ℕ} {j : List ℕ} {s : Sink} (n : p ≡ e → ⊥) (g : m ≡ fieldEnd q p) where
+module _ {t : List ℕ} {te : ℕ} {q : List ℕ} {p m e : ℕ} {j : List ℕ} {s : Collector} (n : p ≡ e → ⊥) (g : m ≡ fieldEnd q p) where
   pub feed-places : FeedReady t te q p e j s → (p + 3 ≤ m) × (m ≤ e) × (e ≤ length q)
   feed-places h = let a = planned-rest n g (h .planned) in (a .after, a .within, h .planned .stages-is .inside)
 
@@ -112,7 +112,7 @@ module _ {t : List ℕ} {te : ℕ} {q : List ℕ} {p m e : ℕ} {j : List ℕ} {
       }
 
   -- after a stage that is no group
-  feed-first : {v : List ℕ} {r : Sink} → ((x : Stage) → Is q p m (stageBytes x) → isGroup x ≡ false)
+  feed-first : {v : List ℕ} {r : Collector} → ((x : Stage) → Is q p m (stageBytes x) → isGroup x ≡ false)
       → ((st : Stage) (ss : List Stage) (us : List Tree) (x : Tree) → OkS st → Is q p m (stageBytes st) → Planned q m e j ss us → Front t te x → Feeds t s v r (stages us (before ss) (step us st (going (x ∷ [])))))
       → FeedPost t v te q p e j s r
   unfolding stages
@@ -122,7 +122,7 @@ module _ {t : List ℕ} {te : ℕ} {q : List ℕ} {p m e : ℕ} {j : List ℕ} {
       (f (a .first) (a .others) us x (a .first-ok) (a .first-is) (a .planned) i)
 
   -- a group is next
-  pub feed-group : {v : List ℕ} {r : Sink} → ((x : Stage) → Is q p m (stageBytes x) → isGroup x ≡ true) → Collected t v te s r → FeedPost t v te q p e j s r
+  pub feed-group : {v : List ℕ} {r : Collector} → ((x : Stage) → Is q p m (stageBytes x) → isGroup x ≡ true) → Collected t v te s r → FeedPost t v te q p e j s r
   feed-group {v} {r} k c ss us x h f =
       let a = planned-rest n g h in
       subst (λ l. Feeds t s v r (stages us l (going (x ∷ [])))) (sym (ap before (a .same) ∙ before-group (a .first) (a .others) (k (a .first) (a .first-is)))) (collected-tree t v te s r us x c f)
@@ -136,7 +136,7 @@ module _ {t : List ℕ} {te : ℕ} {q : List ℕ} {p m e : ℕ} {j : List ℕ} {
         let b = read (a .first) (a .first-is) in
         record { part = record { value = b .part; allowed = allowed (b .part) (subst OkS (b .same) (a .first-ok)); value-is = b .part-is }; next = feeding-rest h (λ x i. ap isGroup (read x i .same) ∙ plain (read x i .part)) }
 
-    pub feed-part : {v : List ℕ} {r : Sink} → PartPost ok f k t v te q c ce m e j s r → FeedPost t v te q p e j s r
+    pub feed-part : {v : List ℕ} {r : Collector} → PartPost ok f k t v te q c ce m e j s r → FeedPost t v te q p e j s r
     feed-part {v} {r} h = feed-first (λ x i. ap isGroup (read x i .same) ∙ plain (read x i .part)) (λ st ss us x o i pl fr.
         let b = read st i in
         subst (λ y. Feeds t s v r (stages us (before ss) (step us y (going (x ∷ []))))) (sym (b .same)) (h (b .part) ss us x (allowed (b .part) (subst OkS (b .same) o)) (b .part-is) pl fr))
@@ -155,7 +155,7 @@ module _ {t : List ℕ} {te : ℕ} {q : List ℕ} {p m e : ℕ} {j : List ℕ} {
           next = feeding-rest k (λ x y. lookup-plain (read x y .same));
         }
 
-    pub feed-join : {v : List ℕ} {r : Sink} → JoinPost t v te q c d f u h i m e j s r → FeedPost t v te q p e j s r
+    pub feed-join : {v : List ℕ} {r : Collector} → JoinPost t v te q c d f u h i m e j s r → FeedPost t v te q p e j s r
     feed-join {v} {r} k = feed-first (λ x y. lookup-plain (read x y .same)) (λ st ss us x o y pl fr.
         let b = read st y in
         let a = lookup-ok (b .same) o in
@@ -182,7 +182,7 @@ unfolding isGroup
 plain-project is = refl
 
 -- ---- the next stage's room
-pub next-ready : {t : List ℕ} {te : ℕ} {q : List ℕ} {m e : ℕ} {j : List ℕ} {s : Sink} → Feeding 30036 t te q m e j s → FeedReady t te q m e j s
+pub next-ready : {t : List ℕ} {te : ℕ} {q : List ℕ} {m e : ℕ} {j : List ℕ} {s : Collector} → Feeding 30036 t te q m e j s → FeedReady t te q m e j s
 next-ready h = record {
   list = h .list;
   joined = h .joined;
@@ -195,7 +195,7 @@ next-ready h = record {
 }
 
 -- ---- match
-module _ {t : List ℕ} {te : ℕ} {q : List ℕ} {c ce m e : ℕ} {j : List ℕ} {s : Sink} (h : PartReady (NestedC nestMax) criterionBytes t te q c ce m e j s) where
+module _ {t : List ℕ} {te : ℕ} {q : List ℕ} {c ce m e : ℕ} {j : List ℕ} {s : Collector} (h : PartReady (NestedC nestMax) criterionBytes t te q c ce m e j s) where
   pub match-reads : Evaluable q c ce t 0 te nestMax
   match-reads = record { criterion = h .part; tree = record { value = h .next .tree; allowed = h .next .front .allowed; value-is = h .next .front .tree-is } }
 
@@ -203,7 +203,7 @@ module _ {t : List ℕ} {te : ℕ} {q : List ℕ} {c ce m e : ℕ} {j : List ℕ
     met : (a : Criterion) (us : List Tree) (x : Tree) → NestedC nestMax a → Is q c ce (criterionBytes a) → Front t te x → step us (match a) (going (x ∷ [])) ≡ going (cond b (x ∷ []) [])
     met a us x o i f = step-match us a (f .allowed) ∙ ap (λ d. going (cond d (x ∷ []) [])) (sym (k a x o i (f .allowed) (f .tree-is)))
 
-    pub match-kept : {v : List ℕ} {r : Sink} → b ≡ true → FeedPost t v te q m e j s r → PartPost (NestedC nestMax) criterionBytes match t v te q c ce m e j s r
+    pub match-kept : {v : List ℕ} {r : Collector} → b ≡ true → FeedPost t v te q m e j s r → PartPost (NestedC nestMax) criterionBytes match t v te q c ce m e j s r
     match-kept {v} {r} z f a ss us x o i pl fr =
         subst (λ y. Feeds t s v r (stages us (before ss) y)) (sym (met a us x o i fr ∙ ap (λ d. going (cond d (x ∷ []) [])) z)) (f ss us x pl fr)
 
@@ -212,7 +212,7 @@ module _ {t : List ℕ} {te : ℕ} {q : List ℕ} {c ce m e : ℕ} {j : List ℕ
         subst (λ y. Feeds t s t s (stages us (before ss) y)) (sym (met a us x o i fr ∙ ap (λ d. going (cond d (x ∷ []) [])) z)) (feeds-none t s us (before ss) (before-free ss))
 
 -- ---- a tree that stands behind the front, in a lent tail
-module _ {n : ℕ} {t : List ℕ} {te : ℕ} {q : List ℕ} {m e : ℕ} {j : List ℕ} {s : Sink} (h : Feeding n t te q m e j s) {v : List ℕ} (l : length v ≡ length t) where
+module _ {n : ℕ} {t : List ℕ} {te : ℕ} {q : List ℕ} {m e : ℕ} {j : List ℕ} {s : Collector} (h : Feeding n t te q m e j s) {v : List ℕ} (l : length v ≡ length t) where
   pub tail-ready : {o : ℕ} {y : Tree} → 30036 ≤ n → Allowed depthMax y → Is v treeMax o (treeBytes y) → FeedReady (tail treeMax v) (o - treeMax) q m e j s
   tail-ready {o} {y} b a i = record {
     list = h .list;
@@ -226,7 +226,7 @@ module _ {n : ℕ} {t : List ℕ} {te : ℕ} {q : List ℕ} {m e : ℕ} {j : Lis
   }
 
 -- ---- project
-module _ {t : List ℕ} {te : ℕ} {q : List ℕ} {c ce m e : ℕ} {j : List ℕ} {s : Sink} (h : PartReady OkItems itemsBytes t te q c ce m e j s) where
+module _ {t : List ℕ} {te : ℕ} {q : List ℕ} {c ce m e : ℕ} {j : List ℕ} {s : Collector} (h : PartReady OkItems itemsBytes t te q c ce m e j s) where
   pub project-ready : ProjectReady t q c ce 0 te treeMax
   project-ready = record {
     items = record { value = h .part .value; allowed = h .part .allowed .0; value-is = h .part .value-is };
@@ -259,7 +259,7 @@ module _ {t : List ℕ} {te : ℕ} {q : List ℕ} {c ce m e : ℕ} {j : List ℕ
           let b = made (h .part .value) (n .joined) (n .tree) (h .part .allowed) (h .part .value-is) (n .planned .joined-ok) (n .front) in
           tail-ready n l (omega arith) (b .2) (b .3)
 
-      pub project-fed : {y : List ℕ} {r : Sink} → length y ≡ length (tail treeMax v) → FeedPost (tail treeMax v) y (d - treeMax) q m e j s r
+      pub project-fed : {y : List ℕ} {r : Collector} → length y ≡ length (tail treeMax v) → FeedPost (tail treeMax v) y (d - treeMax) q m e j s r
           → PartPost OkItems itemsBytes project t (lent treeMax v y) te q c ce m e j s r
       project-fed {y} {r} ly f a ss us x ok i pl fr =
           let b = made a us x ok i (pl .joined-ok) fr in
@@ -269,7 +269,7 @@ module _ {t : List ℕ} {te : ℕ} {q : List ℕ} {c ce m e : ℕ} {j : List ℕ
           (f ss us (b .0) pl record { allowed = b .2; tree-is = tail-is treeMax v (b .3) }))
 
 -- ---- lookup: its tree takes the place of the tree at the front
-module _ {t : List ℕ} {te : ℕ} {q : List ℕ} {c d f u g i m e : ℕ} {j : List ℕ} {s : Sink} (h : JoinReady t te q c d f u g i m e j s) where
+module _ {t : List ℕ} {te : ℕ} {q : List ℕ} {c d f u g i m e : ℕ} {j : List ℕ} {s : Collector} (h : JoinReady t te q c d f u g i m e j s) where
   pub lookup-ready : LookupReady t q c d f u g i 0 te j 3 (length j)
   lookup-ready = record {
     own = h .own;
@@ -313,7 +313,7 @@ module _ {t : List ℕ} {te : ℕ} {q : List ℕ} {c d f u g i m e : ℕ} {j : L
             goes = r .goes;
           }
 
-      pub lookup-fed : {y : List ℕ} {r : Sink} → FeedPost v y n q m e j s r → JoinPost t y te q c d f u g i m e j s r
+      pub lookup-fed : {y : List ℕ} {r : Collector} → FeedPost v y n q m e j s r → JoinPost t y te q c d f u g i m e j s r
       lookup-fed {y} {r} feeds own other target ss us x a ai b bi p pi pl fr =
           let w = looked-at own other target ss us x a ai b bi p pi pl fr in
           let beyond = k own other target x us a ai b bi p pi (fr .allowed) (fr .tree-is) (pl .joined-ok) (pl .joined-is) .beyond in

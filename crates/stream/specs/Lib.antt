@@ -1,13 +1,10 @@
 -- Definitions.
-pub mod Stretch
-pub mod Sink
-pub mod Tails
+pub mod Collector
 pub mod Feed
+pub mod Tails
 pub mod Unwinding
 -- Laws.
-pub mod StretchLaws
 pub mod TailLaws
-pub mod SinkLaws
-pub mod StageLaws
+pub mod CollectorLaws
 pub mod FeedLaws
 pub mod UnwindLaws

@@ -5,9 +5,9 @@ use Prim.Native.Nat.{ℕ, _+_, _-_, _≤_}
 use native.Mathlib.Omega.{arith}
 use lib.ListN.{length, take, drop, length-append, length-drop, drop-of-length-le}
 use lib.Seq.{take-all, take-at, drop-append-add, drop-drop, length-take-le, take-take}
-use Rattle.format.specs.Area.{Is}
-use Rattle.format.specs.AreaLaws.{is-part, drop-more}
-use Rattle.stream.specs.Sink.{ends}
+use Rattle.areas.specs.Area.{Is}
+use Rattle.areas.specs.AreaLaws.{is-part, drop-more}
+use Rattle.stream.specs.Collector.{ends}
 use Rattle.stream.specs.Tails.{tail, lent}
 
 module _ (a : ℕ) (w : List ℕ) where

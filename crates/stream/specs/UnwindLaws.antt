@@ -7,50 +7,49 @@ use Prim.Native.Nat.{ℕ, _+_, _-_, _≤_, _<_}
 use native.Mathlib.Omega.{arith}
 use lib.ListN.{length, take, drop, getD}
 use lib.Dec.{leb, leb→le}
-use Rattle.format.specs.declared.area.Out.{Out}
-use Rattle.format.specs.declared.area.Out.the-variants.{At, TooLarge}
+use Rattle.areas.specs.declared.area.Out.{Out}
+use Rattle.areas.specs.declared.area.Out.the-variants.{At, TooLarge}
 use Rattle.format.specs.declared.labels.Found.{Found}
 use Rattle.format.specs.declared.labels.Found.the-variants.{Part, Missing}
-use Rattle.format.specs.Lists.{all}
-use Rattle.format.specs.Limits.{treeMax, depthMax, pathMax, labelMax}
-use Rattle.format.specs.OptionLaws.{T-and}
-use Rattle.format.specs.ListLaws.{All-drop}
-use Rattle.format.specs.Tree.{Tree, Trees, _▹_, list, labels, isLabel, find}
-use Rattle.format.specs.Bytes.{treeBytes}
-use Rattle.format.specs.Within.{Allowed, AllowedA}
-use Rattle.format.specs.Area.{Is, Wrote, fieldEnd}
-use Rattle.format.specs.AreaLaws.{is-keep, wrote-keep, written, told}
-use Rattle.format.specs.SizeLaws.{length-tree}
+use Rattle.spec_trees.specs.Lists.{all}
+use Rattle.spec_trees.specs.Limits.{treeMax, depthMax, pathMax, labelMax}
+use Rattle.spec_trees.specs.OptionLaws.{T-and}
+use Rattle.spec_trees.specs.ListLaws.{All-drop}
+use Rattle.spec_trees.specs.Tree.{Tree, Trees, _▹_, list, labels, isLabel, find}
+use Rattle.spec_trees.specs.Bytes.{treeBytes}
+use Rattle.spec_trees.specs.Within.{Allowed, AllowedA}
+use Rattle.areas.specs.Area.{Is, Wrote, fieldEnd}
+use Rattle.areas.specs.AreaLaws.{is-keep, wrote-keep, written, told}
+use Rattle.spec_trees.specs.SizeLaws.{length-tree}
 use Rattle.format.specs.Stand.{treesBytes, Holds}
 use Rattle.format.specs.StandLaws.{tree-parts, trees-parts, trees-none, trees-places, holds-first}
-use Rattle.query.specs.Query.{Path, Stage, unwind}
-use Rattle.query.specs.Rules.{OkP}
-use Rattle.query.specs.Places.{pathBytes}
-use Rattle.query.specs.Decode.{isPath}
-use Rattle.query.specs.Steps.{stepCount, stepAt}
-use Rattle.query.specs.StepLaws.{steps-are, step-is}
-use Rattle.stages.specs.Unwind.{holding, unwound}
-use Rattle.stages.specs.Stages.{going, step, stages}
-use Rattle.writing.specs.Writers.{Along, Ready}
-use Rattle.writing.specs.Outcomes.{soundBytes, FindsEntry, Counts, Has, PutsOutcome, ElementReady, PutsElement}
-use Rattle.writing.specs.OutcomeLaws.{entry-of, entry-places, entry-kept, outcome-fits}
-use Rattle.writing.specs.UnwoundLaws.{labels-ok, unwound-allowed, unwound-none, unwound-one, left-next, left-none, elements-next}
-use Rattle.stream.specs.declared.sink.Sink.{Sink}
-use Rattle.stream.specs.declared.sink.Sink.the-variants.{Large}
-use Rattle.stream.specs.Stretch.{before}
-use Rattle.stream.specs.StretchLaws.{before-free}
-use Rattle.stream.specs.Sink.{isLarge, ends, Feeds}
-use Rattle.stream.specs.SinkLaws.{feeds-none, feeds-lent, feeds-more, feeds-stop, feeds-open}
+use Rattle.spec_queries.specs.Query.{Path, Stage, unwind, isPath}
+use Rattle.spec_queries.specs.Rules.{OkP}
+use Rattle.queries.specs.Places.{pathBytes}
+use Rattle.queries.specs.Steps.{stepCount, stepAt}
+use Rattle.queries.specs.StepLaws.{steps-are, step-is}
+use Rattle.spec_stages.specs.Unwind.{holding, unwound}
+use Rattle.spec_stages.specs.Stages.{going, step, stages}
+use Rattle.place.specs.Writers.{Along, WriterReady}
+use Rattle.unwind.specs.Outcomes.{soundBytes, FindsEntry, Counts, Has, PutsOutcome, ElementReady, PutsElement}
+use Rattle.unwind.specs.OutcomeLaws.{entry-of, entry-places, entry-kept, outcome-fits}
+use Rattle.spec_stages.specs.UnwoundLaws.{labels-ok, unwound-allowed, unwound-none, unwound-one, left-next, left-none, elements-next}
+use Rattle.stream.specs.declared.collector.Collector.{Collector}
+use Rattle.stream.specs.declared.collector.Collector.the-variants.{Large}
+use Rattle.spec_stages.specs.Stretch.{before}
+use Rattle.spec_stages.specs.StretchLaws.{before-free}
+use Rattle.stream.specs.Collector.{isLarge, ends, Feeds}
+use Rattle.stream.specs.CollectorLaws.{feeds-none, feeds-lent, feeds-more, feeds-stop, feeds-open}
 use Rattle.stream.specs.Tails.{tail, lent}
 use Rattle.stream.specs.TailLaws.{tail-length, tail-is, lent-length, lent-front, ends-beyond}
-use Rattle.stream.specs.StageLaws.{step-unwind, unwound-alone}
+use Rattle.spec_stages.specs.StageLaws.{step-unwind, unwound-alone}
 use Rattle.stream.specs.Feed.{Planned, Front, FeedReady, FeedPost, PartReady, PartPost}
 use Rattle.stream.specs.FeedLaws.{front-fits}
-use Rattle.stream.specs.Unwinding.{Leaves, Unwinding, Parted, LeftFrom, LeftUnder, Under}
+use Rattle.stream.specs.Unwinding.{LeftRule, Unwinding, Parted, LeftFrom, LeftUnder, UnwoundEntry}
 
 -- ---- any loop over what is left
-module _ {t₀ : List ℕ} {te : ℕ} {q : List ℕ} {c ce m e : ℕ} {j : List ℕ} {s₀ : Sink} (h : PartReady OkP pathBytes t₀ te q c ce m e j s₀) where
-  pub unwinding-begin : (Left : Leaves) → ((a : Path) (x : Tree) → OkP a → Is q c ce a → Front t₀ te x → Left a x (unwound a x)) → Unwinding Left t₀ te q c ce m e j s₀ t₀ s₀
+module _ {t₀ : List ℕ} {te : ℕ} {q : List ℕ} {c ce m e : ℕ} {j : List ℕ} {s₀ : Collector} (h : PartReady OkP pathBytes t₀ te q c ce m e j s₀) where
+  pub unwinding-begin : (Left : LeftRule) → ((a : Path) (x : Tree) → OkP a → Is q c ce a → Front t₀ te x → Left a x (unwound a x)) → Unwinding Left t₀ te q c ce m e j s₀ t₀ s₀
   unwinding-begin Left f = record {
     same = refl;
     kept = refl;
@@ -63,7 +62,7 @@ module _ {t₀ : List ℕ} {te : ℕ} {q : List ℕ} {c ce m e : ℕ} {j : List 
   unwound-nothing f a ss us x o i pl fr =
       subst (λ y. Feeds t₀ s₀ t₀ s₀ (stages us (before ss) y)) (sym (step-unwind us a (fr .allowed) ∙ ap going (f a x o i fr))) (feeds-none t₀ s₀ us (before ss) (before-free ss))
 
-  module _ {Left : Leaves} {t : List ℕ} {s : Sink} (g : Unwinding Left t₀ te q c ce m e j s₀ t s) where
+  module _ {Left : LeftRule} {t : List ℕ} {s : Collector} (g : Unwinding Left t₀ te q c ce m e j s₀ t s) where
     pub wide : 30036 ≤ length t
     wide = omega (arith, h .next .room, g .same)
 
@@ -79,7 +78,7 @@ module _ {t₀ : List ℕ} {te : ℕ} {q : List ℕ} {c ce m e : ℕ} {j : List 
         subst (λ y. Feeds t₀ s₀ t s (stages us (before ss) y)) (sym (step-unwind us a (fr .allowed)))
         (k .carry t s (subst (λ y. Feeds t s t s (stages us (before ss) (going y))) (sym (f a x (k .left) o i fr (k .left-is))) (feeds-none t s us (before ss) (before-free ss))))
 
-    module _ {After : Leaves} {v : List ℕ} {o : ℕ} (l : length v ≡ length t) (kept : take treeMax v ≡ take treeMax t) (en : ends v ≡ ends t)
+    module _ {After : LeftRule} {v : List ℕ} {o : ℕ} (l : length v ≡ length t) (kept : take treeMax v ≡ take treeMax t) (en : ends v ≡ ends t)
         (part : (a : Path) (x : Tree) (ys : List Tree) → OkP a → Is q c ce a → Front t₀ te x → Left a x ys → Parted After v o a x ys) where
       pub outcome-end : treeMax ≤ o
       outcome-end =
@@ -104,7 +103,7 @@ module _ {t₀ : List ℕ} {te : ℕ} {q : List ℕ} {c ce m e : ℕ} {j : List 
             goes = g .goes;
           }
 
-      module _ {y : List ℕ} {r : Sink} (ly : length y ≡ length (tail treeMax v)) (p : FeedPost (tail treeMax v) y (o - treeMax) q m e j s r) where
+      module _ {y : List ℕ} {r : Collector} (ly : length y ≡ length (tail treeMax v)) (p : FeedPost (tail treeMax v) y (o - treeMax) q m e j s r) where
         fed-one : (a : Path) (ss : List Stage) (us : List Tree) (x : Tree) {ys : List Tree} → Planned q m e j ss us → (b : Parted After v o a x ys)
             → Feeds t s (lent treeMax v y) r (stages us (before ss) (going (b .first ∷ [])))
         fed-one a ss us x pl b =
@@ -153,21 +152,21 @@ module _ {t v : List ℕ} {xs : List ℕ} {r : Out} (l : length v ≡ length t) 
       (λ z. ends-beyond t v 4096 l (omega arith) (k .large z .beyond))
 
 -- ---- outcome by outcome
-pub path-along : {t : List ℕ} {te : ℕ} {q : List ℕ} {c ce m e : ℕ} {j : List ℕ} {s : Sink} → PartReady OkP pathBytes t te q c ce m e j s → Along q c ce
+pub path-along : {t : List ℕ} {te : ℕ} {q : List ℕ} {c ce m e : ℕ} {j : List ℕ} {s : Collector} → PartReady OkP pathBytes t te q c ce m e j s → Along q c ce
 path-along h = record { path = h .part .value; path-is = h .part .value-is; allowed = h .part .allowed }
 
-pub front-tree : {t : List ℕ} {te : ℕ} {q : List ℕ} {c ce m e : ℕ} {j : List ℕ} {s : Sink} → PartReady OkP pathBytes t te q c ce m e j s → Holds treeBytes t 0 te
+pub front-tree : {t : List ℕ} {te : ℕ} {q : List ℕ} {c ce m e : ℕ} {j : List ℕ} {s : Collector} → PartReady OkP pathBytes t te q c ce m e j s → Holds treeBytes t 0 te
 front-tree h = record { value = h .next .tree; value-is = h .next .front .tree-is }
 
-module _ {t₀ : List ℕ} {te : ℕ} {q : List ℕ} {c ce m e : ℕ} {j : List ℕ} {s₀ : Sink} (h : PartReady OkP pathBytes t₀ te q c ce m e j s₀) where
+module _ {t₀ : List ℕ} {te : ℕ} {q : List ℕ} {c ce m e : ℕ} {j : List ℕ} {s₀ : Collector} (h : PartReady OkP pathBytes t₀ te q c ce m e j s₀) where
   pub outcomes-begin : Unwinding (LeftFrom 0) t₀ te q c ce m e j s₀ t₀ s₀
   outcomes-begin = unwinding-begin h (LeftFrom 0) (λ a x o i fr. refl)
 
-  module _ {n i : ℕ} {t : List ℕ} {s : Sink} (counts : Counts q c ce 0 t₀ 0 te n) (g : Unwinding (LeftFrom i) t₀ te q c ce m e j s₀ t s) where
+  module _ {n i : ℕ} {t : List ℕ} {s : Collector} (counts : Counts q c ce 0 t₀ 0 te n) (g : Unwinding (LeftFrom i) t₀ te q c ce m e j s₀ t s) where
     pub outcomes-end : n ≤ i → PartPost OkP pathBytes unwind t₀ t te q c ce m e j s₀ s
     outcomes-end b = unwinding-end h g (λ a x ys o k fr z. z ∙ left-none (unwound a x) i (omega (arith, counts a x k (fr .tree-is))))
 
-    pub outcome-writes : i < n → Ready soundBytes t q c ce 0 0 te treeMax 4096 × (treeMax + (te - 0) ≤ 4096) × Has t q c ce 0 0 te i
+    pub outcome-writes : i < n → WriterReady soundBytes t q c ce 0 0 te treeMax 4096 × (treeMax + (te - 0) ≤ 4096) × Has t q c ce 0 0 te i
     outcome-writes b =
         let f = front-fits (h .next .front) in
         let w : 30036 ≤ length t = omega (arith, h .next .room, g .same) in (
@@ -223,7 +222,7 @@ label-byte {k} o =
     let b = T-and (isLabel k) true a .0 in
     omega (arith, leb→le k labelMax (T-and (leb 1 k) (leb k labelMax) b .1))
 
-module _ {t : List ℕ} {te : ℕ} {q : List ℕ} {c ce m e : ℕ} {j : List ℕ} {s : Sink} (h : PartReady OkP pathBytes t te q c ce m e j s) {k : ℕ} (one : stepCount c ce ≡ 1) (label : k ≡ stepAt q c 0) where
+module _ {t : List ℕ} {te : ℕ} {q : List ℕ} {c ce m e : ℕ} {j : List ℕ} {s : Collector} (h : PartReady OkP pathBytes t te q c ce m e j s) {k : ℕ} (one : stepCount c ce ≡ 1) (label : k ≡ stepAt q c 0) where
   pub one-label : (a : Path) → Is q c ce a → a ≡ k ∷ []
   one-label a i = go a i (steps-are i)
     where
@@ -240,7 +239,7 @@ module _ {t : List ℕ} {te : ℕ} {q : List ℕ} {c ce m e : ℕ} {j : List ℕ
     elements-missing y = unwound-nothing h (λ a x o i fr.
         ap (λ p. unwound p x) (one-label a i) ∙ unwound-none k [] x (f (labels x) 0 (labels-ok x (fr .allowed .ok)) (tree-parts x z (fr .tree-is) .labels-is) .missing y))
 
-    pub elements-under : {a b : ℕ} → r ≡ Part a b → Under t te q c ce k a b
+    pub elements-under : {a b : ℕ} → r ≡ Part a b → UnwoundEntry t te q c ce k a b
     elements-under {a} {b} y = record {
       byte = one-byte;
       within = entry-places (entry-of z f y (h .next .tree) (h .next .front .allowed .ok) (h .next .front .tree-is)) .2;
@@ -248,14 +247,14 @@ module _ {t : List ℕ} {te : ℕ} {q : List ℕ} {c ce m e : ℕ} {j : List ℕ
       entry = entry-of z f y;
     }
 
-module _ {t₀ : List ℕ} {te : ℕ} {q : List ℕ} {c ce m e : ℕ} {j : List ℕ} {s₀ : Sink} (h : PartReady OkP pathBytes t₀ te q c ce m e j s₀) {k f u : ℕ} (under : Under t₀ te q c ce k f u) where
+module _ {t₀ : List ℕ} {te : ℕ} {q : List ℕ} {c ce m e : ℕ} {j : List ℕ} {s₀ : Collector} (h : PartReady OkP pathBytes t₀ te q c ce m e j s₀) {k f u : ℕ} (under : UnwoundEntry t₀ te q c ce k f u) where
   pub elements-begin : Unwinding (LeftUnder k t₀ f u) t₀ te q c ce m e j s₀ t₀ s₀
   elements-begin = unwinding-begin h (LeftUnder k t₀ f u) (λ a x o i fr.
       let y = under .entry x (fr .allowed .ok) (fr .tree-is) in
       record { array = y .array; array-is = y .array-is; same = ap (λ p. unwound p x) (under .path-is a i) ∙ unwound-one k x (list (y .array)) (y .same); allowed = unwound-allowed a x o (fr .allowed) })
 
   -- of one tree alone: the tree at the front went on
-  pub elements-alone : {y : ℕ} {v : List ℕ} {r : Sink} → (f ≡ u → ⊥) → y ≡ fieldEnd t₀ f → y ≡ u → FeedPost t₀ v te q m e j s₀ r → PartPost OkP pathBytes unwind t₀ v te q c ce m e j s₀ r
+  pub elements-alone : {y : ℕ} {v : List ℕ} {r : Collector} → (f ≡ u → ⊥) → y ≡ fieldEnd t₀ f → y ≡ u → FeedPost t₀ v te q m e j s₀ r → PartPost OkP pathBytes unwind t₀ v te q c ce m e j s₀ r
   elements-alone {v = v} {r} n z w p a ss us x o i pl fr =
       let b = under .entry x (fr .allowed .ok) (fr .tree-is) in
       let d = trees-parts (b .array) z n (b .array-is) in
@@ -263,7 +262,7 @@ module _ {t₀ : List ℕ} {te : ℕ} {q : List ℕ} {c ce m e : ℕ} {j : List 
       let same = ap (λ p. unwound p x) (under .path-is a i) ∙ unwound-alone k x (d .first) (fr .allowed .ok) one in
       subst (λ y. Feeds t₀ s₀ v r (stages us (before ss) y)) (sym (step-unwind us a (fr .allowed) ∙ ap going same)) (p ss us x pl fr)
 
-  module _ {d : ℕ} {t : List ℕ} {s : Sink} (g : Unwinding (LeftUnder k t₀ d u) t₀ te q c ce m e j s₀ t s) where
+  module _ {d : ℕ} {t : List ℕ} {s : Collector} (g : Unwinding (LeftUnder k t₀ d u) t₀ te q c ce m e j s₀ t s) where
     pub elements-end : d ≡ u → PartPost OkP pathBytes unwind t₀ t te q c ce m e j s₀ s
     elements-end z = unwinding-end h g (λ a x ys o i fr y. y .same ∙ ap (λ l. map (holding k x) (list l)) (trees-none (y .array) z (y .array-is)))
 

@@ -1,44 +1,45 @@
--- Loops over the outcomes of the tree at the front, each of which goes through the stages behind the unwind: what is right
--- for the outcomes that are left is right for all.
+-- Loops over the outcomes of the tree at the front, each of which goes through the stages behind the unwind: what is
+-- right for the outcomes that are left is right for all.
 use mathlib.Core.Path.{_≡_}
 use mathlib.Core.List.{List, [], _∷_, map}
 use Prim.Native.Nat.{ℕ, _≤_, _<_}
 use lib.ListN.{length, take, drop}
-use Rattle.format.specs.Limits.{treeMax, depthMax}
-use Rattle.format.specs.Tree.{Tree, Trees, list}
-use Rattle.format.specs.Bytes.{treeBytes}
-use Rattle.format.specs.Within.{Allowed, AllowedA}
-use Rattle.format.specs.Area.{Is}
+use Rattle.spec_trees.specs.Limits.{treeMax, depthMax}
+use Rattle.spec_trees.specs.Tree.{Tree, Trees, list}
+use Rattle.spec_trees.specs.Bytes.{treeBytes}
+use Rattle.spec_trees.specs.Within.{Allowed, AllowedA}
+use Rattle.areas.specs.Area.{Is}
 use Rattle.format.specs.Stand.{treesBytes}
-use Rattle.query.specs.Query.{Path, Stage}
-use Rattle.query.specs.Rules.{OkP}
-use Rattle.stages.specs.Unwind.{holding, unwound}
-use Rattle.stages.specs.Stages.{going, stages}
-use Rattle.writing.specs.Outcomes.{EntryAt}
-use Rattle.stream.specs.declared.sink.Sink.{Sink}
-use Rattle.stream.specs.Stretch.{before}
-use Rattle.stream.specs.Sink.{Open, Feeds}
+use Rattle.spec_queries.specs.Query.{Path, Stage}
+use Rattle.spec_queries.specs.Rules.{OkP}
+use Rattle.spec_stages.specs.Unwind.{holding, unwound}
+use Rattle.spec_stages.specs.Stages.{going, stages}
+use Rattle.unwind.specs.Outcomes.{EntryAt}
+use Rattle.stream.specs.declared.collector.Collector.{Collector}
+use Rattle.spec_stages.specs.Stretch.{before}
+use Rattle.stream.specs.Collector.{Open, Feeds}
 use Rattle.stream.specs.Feed.{Planned, Front}
 
 -- `Left a x ys`: of the outcomes of x by the path a, ys are left
-abbrev pub Leaves : Type 1
-Leaves = Path → Tree → List Tree → Type 0
+abbrev pub LeftRule : Type 1
+LeftRule = Path → Tree → List Tree → Type 0
 
 -- when ys were fed, all outcomes were
-pub record Carries (Left : Leaves) (t₀ : List ℕ) (s₀ : Sink) (t : List ℕ) (s : Sink) (a : Path) (ss : List Stage) (us : List Tree) (x : Tree) : Type 0 where
+pub record Carries (Left : LeftRule) (t₀ : List ℕ) (s₀ : Collector) (t : List ℕ) (s : Collector) (a : Path) (ss : List Stage) (us : List Tree) (x : Tree) : Type 0 where
   pub left : List Tree
   pub left-is : Left a x left
-  pub carry : (v : List ℕ) (r : Sink) → Feeds t s v r (stages us (before ss) (going left)) → Feeds t₀ s₀ v r (stages us (before ss) (going (unwound a x)))
+  pub carry : (v : List ℕ) (r : Collector) → Feeds t s v r (stages us (before ss) (going left)) → Feeds t₀ s₀ v r (stages us (before ss) (going (unwound a x)))
 
--- from the area t₀ with the sink s₀ the loop came to the area t with the sink s; the tree at the front is as it was
-pub record Unwinding (Left : Leaves) (t₀ : List ℕ) (te : ℕ) (q : List ℕ) (c ce m e : ℕ) (j : List ℕ) (s₀ : Sink) (t : List ℕ) (s : Sink) : Type 0 where
+-- from the area t₀ with the collector s₀ the loop came to the area t with the collector s; the tree at the front is
+-- as it was
+pub record Unwinding (Left : LeftRule) (t₀ : List ℕ) (te : ℕ) (q : List ℕ) (c ce m e : ℕ) (j : List ℕ) (s₀ : Collector) (t : List ℕ) (s : Collector) : Type 0 where
   pub same : length t ≡ length t₀
   pub kept : take treeMax t ≡ take treeMax t₀
   pub goes : Open s
   pub rest : (a : Path) (ss : List Stage) (us : List Tree) (x : Tree) → OkP a → Is q c ce a → Planned q m e j ss us → Front t₀ te x → Carries Left t₀ s₀ t s a ss us x
 
 -- the first of ys stands in v behind the room of the front, up to o, and others are left
-pub record Parted (After : Leaves) (v : List ℕ) (o : ℕ) (a : Path) (x : Tree) (ys : List Tree) : Type 0 where
+pub record Parted (After : LeftRule) (v : List ℕ) (o : ℕ) (a : Path) (x : Tree) (ys : List Tree) : Type 0 where
   pub first : Tree
   pub others : List Tree
   pub same : ys ≡ first ∷ others
@@ -49,7 +50,7 @@ pub record Parted (After : Leaves) (v : List ℕ) (o : ℕ) (a : Path) (x : Tree
 -- ---- what is left, told in two ways
 
 -- all but the first i
-abbrev pub LeftFrom : ℕ → Leaves
+abbrev pub LeftFrom : ℕ → LeftRule
 LeftFrom i a x ys = ys ≡ drop i (unwound a x)
 
 -- one for each tree that stands in t from f to u, where the path is of the label k alone
@@ -61,7 +62,7 @@ pub record LeftUnder (k : ℕ) (t : List ℕ) (f u : ℕ) (a : Path) (x : Tree) 
 
 -- the label k, which is a byte, and its entry in t, with its array from f to u, whatever path of one label and whatever
 -- tree stand there
-pub record Under (t : List ℕ) (te : ℕ) (q : List ℕ) (c ce k f u : ℕ) : Type 0 where
+pub record UnwoundEntry (t : List ℕ) (te : ℕ) (q : List ℕ) (c ce k f u : ℕ) : Type 0 where
   pub byte : k < 256
   pub within : u ≤ te
   pub path-is : (a : Path) → Is q c ce a → a ≡ k ∷ []

@@ -1,37 +1,37 @@
-//! One tree through the stages of a stretch, depth first: what a stage makes of it goes on at once, and what leaves the last
-//! stage is collected. The tree stands at the front of a lent tail t of the work area, up to te; the collector is at the end
-//! of t. A stage that makes a tree beside the one it reads makes it behind a room of one tree, and lends the tail from there.
-//! The functions call each other in a cycle, which ends as the stages do. The stages stand in q, up to e; the joined array
-//! is j.
+//! One tree through the stages of a stretch, depth first: what a stage makes of it goes on at once, and what leaves
+//! the last stage is collected. The tree stands at the front of a lent tail t of the work area, up to te; the
+//! collector is at the end of t. A stage that makes a tree beside the one it reads makes it behind a room of one
+//! tree, and lends the tail from there. The functions call each other in a cycle, which ends as the stages do. The
+//! stages stand in q, up to e; the joined array is j.
 ghost use mathlib.Core.Path.{_≡_};
-ghost use Rattle.format.specs.Limits.{nestMax};
-ghost use Rattle.query.specs.Query.{match, unwind, project};
-ghost use Rattle.query.specs.Rules.{OkP, NestedC};
-ghost use Rattle.query.specs.Steps.{stepCount};
-ghost use Rattle.query.specs.Places.{pathBytes, criterionBytes, itemsBytes};
+ghost use Rattle.spec_trees.specs.Limits.{nestMax};
+ghost use Rattle.spec_queries.specs.Query.{match, unwind, project};
+ghost use Rattle.spec_queries.specs.Rules.{OkP, NestedC};
+ghost use Rattle.queries.specs.Steps.{stepCount};
+ghost use Rattle.queries.specs.Places.{pathBytes, criterionBytes, itemsBytes};
 ghost use Rattle.stream.specs.Feed.{FeedReady, FeedPost, OkItems, PartReady, PartPost, JoinReady, JoinPost};
-ghost use Rattle.stream.specs.Unwinding.{Under};
-use crate::sink::Sink;
-use crate::sink::collect;
-use crate::sink::is_large;
-use format::area::Out;
-use format::area::field_end;
+ghost use Rattle.stream.specs.Unwinding.{UnwoundEntry};
+use crate::collector::Collector;
+use crate::collector::collect;
+use crate::collector::is_large;
+use areas::area::Out;
+use areas::area::field_end;
+use criteria::criteria::holds;
 use format::labels::Found;
 use format::limits::Limits;
-use making::lookup::lookup;
-use making::project::project;
-use query::path::step_at;
-use query::path::steps;
-use query::stage::StageAt;
-use query::stage::stage_at;
-use reading::criteria::holds;
-use writing::unwind::find_entry;
-use writing::unwind::outcomes;
-use writing::unwind::put_element;
-use writing::unwind::put_outcome;
+use lookup::lookup::lookup;
+use project::project::project;
+use queries::path::step_at;
+use queries::path::steps;
+use queries::stage::StageAt;
+use queries::stage::stage_at;
+use unwind::unwind::find_entry;
+use unwind::unwind::outcomes;
+use unwind::unwind::put_element;
+use unwind::unwind::put_outcome;
 
-/// Feeds the tree at the front of t to the stages from p on, up to the next group: what leaves the last of them is collected.
-/// The answer is what the collector holds then.
+/// Feeds the tree at the front of t to the stages from p on, up to the next group: what leaves the last of them is
+/// collected. The answer is what the collector holds then.
 pub fn feed<'a>(
     t: &mut [u8],
     te: usize,
@@ -39,8 +39,8 @@ pub fn feed<'a>(
     p: usize,
     e: usize,
     j: &'a [u8],
-    s: Sink,
-) -> Sink
+    s: Collector,
+) -> Collector
     requires { ⌜ FeedReady (now t) te (now q) p e (now j) s ⌝ }
     ensures { λ r. ⌜ FeedPost (now (t .entry)) (now (t .exit)) te (now (q .entry)) p e (now (j .entry)) s r ⌝ }
 {
@@ -78,8 +78,8 @@ fn feed_matched<'a>(
     m: usize,
     e: usize,
     j: &'a [u8],
-    s: Sink,
-) -> Sink
+    s: Collector,
+) -> Collector
     requires { ⌜ PartReady (NestedC nestMax) criterionBytes (now t) te (now q) c ce m e (now j) s ⌝ }
     ensures { λ r. ⌜ PartPost (NestedC nestMax) criterionBytes match (now (t .entry)) (now (t .exit)) te (now (q .entry)) c ce m e (now (j .entry)) s r ⌝ }
 {
@@ -89,8 +89,8 @@ fn feed_matched<'a>(
     s
 }
 
-/// Unwind by the path that stands from c to ce: each outcome goes on. For a path of one label the array under it is walked
-/// once; for a longer path each outcome is found from the tree's start.
+/// Unwind by the path that stands from c to ce: each outcome goes on. For a path of one label the array under it is
+/// walked once; for a longer path each outcome is found from the tree's start.
 fn feed_unwound<'a>(
     t: &mut [u8],
     te: usize,
@@ -100,8 +100,8 @@ fn feed_unwound<'a>(
     m: usize,
     e: usize,
     j: &'a [u8],
-    s: Sink,
-) -> Sink
+    s: Collector,
+) -> Collector
     requires { ⌜ PartReady OkP pathBytes (now t) te (now q) c ce m e (now j) s ⌝ }
     ensures { λ r. ⌜ PartPost OkP pathBytes unwind (now (t .entry)) (now (t .exit)) te (now (q .entry)) c ce m e (now (j .entry)) s r ⌝ }
 {
@@ -121,30 +121,38 @@ fn feed_outcomes<'a>(
     m: usize,
     e: usize,
     j: &'a [u8],
-    s: Sink,
-) -> Sink
+    s: Collector,
+) -> Collector
     requires { ⌜ PartReady OkP pathBytes (now t) te (now q) c ce m e (now j) s ⌝ }
     ensures { λ r. ⌜ PartPost OkP pathBytes unwind (now (t .entry)) (now (t .exit)) te (now (q .entry)) c ce m e (now (j .entry)) s r ⌝ }
 {
     let n = outcomes(q, c, ce, 0, t, 0, te);
-    let mut sink = s;
+    let mut collector = s;
     let mut i = 0;
     while i < n {
         let out = put_outcome(t, q, c, ce, 0, 0, te, i, Limits::TREE, 2 * Limits::TREE);
         let Out::At(o) = out else {
-            return Sink::Large;
+            return Collector::Large;
         };
-        sink = feed(&mut t[Limits::TREE..], o - Limits::TREE, q, m, e, j, sink);
-        if is_large(sink) {
-            return Sink::Large;
+        collector = feed(
+            &mut t[Limits::TREE..],
+            o - Limits::TREE,
+            q,
+            m,
+            e,
+            j,
+            collector,
+        );
+        if is_large(collector) {
+            return Collector::Large;
         }
         i += 1;
     }
-    sink
+    collector
 }
 
-/// The same by a path of one label. An array of no tree under it gives no outcome. Where one tree alone stands there, the
-/// tree at the front is its own only outcome, and goes on as it lies.
+/// The same by a path of one label. An array of no tree under it gives no outcome. Where one tree alone stands there,
+/// the tree at the front is its own only outcome, and goes on as it lies.
 fn feed_elements<'a>(
     t: &mut [u8],
     te: usize,
@@ -154,8 +162,8 @@ fn feed_elements<'a>(
     m: usize,
     e: usize,
     j: &'a [u8],
-    s: Sink,
-) -> Sink
+    s: Collector,
+) -> Collector
     requires { ⌜ PartReady OkP pathBytes (now t) te (now q) c ce m e (now j) s × (stepCount c ce ≡ 1) ⌝ }
     ensures { λ r. ⌜ PartPost OkP pathBytes unwind (now (t .entry)) (now (t .exit)) te (now (q .entry)) c ce m e (now (j .entry)) s r ⌝ }
 {
@@ -188,30 +196,38 @@ fn feed_each<'a>(
     m: usize,
     e: usize,
     j: &'a [u8],
-    s: Sink,
-) -> Sink
-    requires { ⌜ PartReady OkP pathBytes (now t) te (now q) c ce m e (now j) s × Under (now t) te (now q) c ce k f u ⌝ }
+    s: Collector,
+) -> Collector
+    requires { ⌜ PartReady OkP pathBytes (now t) te (now q) c ce m e (now j) s × UnwoundEntry (now t) te (now q) c ce k f u ⌝ }
     ensures { λ r. ⌜ PartPost OkP pathBytes unwind (now (t .entry)) (now (t .exit)) te (now (q .entry)) c ce m e (now (j .entry)) s r ⌝ }
 {
-    let mut sink = s;
+    let mut collector = s;
     let mut x = f;
     while x != u {
         let xe = field_end(t, x);
         let out = put_element(t, k, 0, te, f, u, x, xe, Limits::TREE, 2 * Limits::TREE);
         let Out::At(o) = out else {
-            return Sink::Large;
+            return Collector::Large;
         };
-        sink = feed(&mut t[Limits::TREE..], o - Limits::TREE, q, m, e, j, sink);
-        if is_large(sink) {
-            return Sink::Large;
+        collector = feed(
+            &mut t[Limits::TREE..],
+            o - Limits::TREE,
+            q,
+            m,
+            e,
+            j,
+            collector,
+        );
+        if is_large(collector) {
+            return Collector::Large;
         }
         x = xe;
     }
-    sink
+    collector
 }
 
-/// Project by the items that stand from c to ce: the tree that they make stands behind the front, and goes on in the tail
-/// from there.
+/// Project by the items that stand from c to ce: the tree that they make stands behind the front, and goes on in the
+/// tail from there.
 fn feed_projected<'a>(
     t: &mut [u8],
     te: usize,
@@ -221,20 +237,20 @@ fn feed_projected<'a>(
     m: usize,
     e: usize,
     j: &'a [u8],
-    s: Sink,
-) -> Sink
+    s: Collector,
+) -> Collector
     requires { ⌜ PartReady OkItems itemsBytes (now t) te (now q) c ce m e (now j) s ⌝ }
     ensures { λ r. ⌜ PartPost OkItems itemsBytes project (now (t .entry)) (now (t .exit)) te (now (q .entry)) c ce m e (now (j .entry)) s r ⌝ }
 {
     let out = project(t, q, c, ce, 0, te, Limits::TREE);
     let Out::At(o) = out else {
-        return Sink::Large;
+        return Collector::Large;
     };
     feed(&mut t[Limits::TREE..], o - Limits::TREE, q, m, e, j, s)
 }
 
-/// Lookup by the tree's path from f to u, the joined trees' from g to i, and the target from h to k: what it makes takes the
-/// tree's place, and goes on from there.
+/// Lookup by the tree's path from f to u, the joined trees' from g to i, and the target from h to k: what it makes
+/// takes the tree's place, and goes on from there.
 fn feed_looked<'a>(
     t: &mut [u8],
     te: usize,
@@ -248,14 +264,14 @@ fn feed_looked<'a>(
     m: usize,
     e: usize,
     j: &'a [u8],
-    s: Sink,
-) -> Sink
+    s: Collector,
+) -> Collector
     requires { ⌜ JoinReady (now t) te (now q) f u g i h k m e (now j) s ⌝ }
     ensures { λ r. ⌜ JoinPost (now (t .entry)) (now (t .exit)) te (now (q .entry)) f u g i h k m e (now (j .entry)) s r ⌝ }
 {
     let out = lookup(t, q, f, u, g, i, h, k, 0, te, j, 3, j.len());
     let Out::At(o) = out else {
-        return Sink::Large;
+        return Collector::Large;
     };
     feed(t, o, q, m, e, j, s)
 }

@@ -1,4 +1,3 @@
-//! The inside of the streamed run: a tree goes through the stages of a stretch, depth first, in lent tails of one work area.
-//! The definitions are those of crate `stages`; `specs/` here has the contracts and their laws.
+//! One tree through the stages of a stretch, depth first, and the collector of what leaves it.
+pub mod collector;
 pub mod feed;
-pub mod sink;

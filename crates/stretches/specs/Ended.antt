@@ -3,17 +3,17 @@ use mathlib.Core.Path.{_≡_}
 use mathlib.Core.List.{List}
 use Prim.Native.Nat.{ℕ, _+_, _-_, _≤_, _<_}
 use lib.ListN.{length}
-use Rattle.format.specs.Limits.{arrayMax, workMin}
-use Rattle.format.specs.Tree.{Tree}
-use Rattle.format.specs.Size.{arraySize}
-use Rattle.format.specs.Bytes.{arrayBytes}
-use Rattle.format.specs.Within.{Within}
-use Rattle.format.specs.Area.{Is}
-use Rattle.query.specs.Query.{Stage}
-use Rattle.query.specs.Bytes.{queryBytes}
-use Rattle.query.specs.Rules.{OkQ}
-use Rattle.query.specs.Places.{arrayTrees}
-use Rattle.stages.specs.Stages.{State, going, large, long, stages}
+use Rattle.spec_trees.specs.Limits.{arrayMax}
+use Rattle.spec_trees.specs.Tree.{Tree}
+use Rattle.spec_trees.specs.Size.{arraySize}
+use Rattle.spec_trees.specs.Bytes.{arrayBytes}
+use Rattle.spec_trees.specs.Within.{Within}
+use Rattle.areas.specs.Area.{Is}
+use Rattle.spec_queries.specs.Query.{Stage}
+use Rattle.spec_queries.specs.Bytes.{queryBytes}
+use Rattle.spec_queries.specs.Rules.{OkQ}
+use Rattle.queries.specs.Places.{arrayTrees}
+use Rattle.spec_stages.specs.Stages.{State, going, large, long, stages}
 use Rattle.stretches.specs.declared.ended.Ended.{Ended}
 
 -- where the collector begins, in an area of n bytes
@@ -34,15 +34,15 @@ pub record FullIs (st : State) : Type 0 where
   pub over : arrayMax < arraySize trees
 
 -- r says the state st; w is the area
-pub record Ends (w : List ℕ) (r : Ended) (st : State) : Type 0 where
+pub record EndedIs (w : List ℕ) (r : Ended) (st : State) : Type 0 where
   pub held : (n : ℕ) → r ≡ Ended.Held n → HeldIs w n st
   pub full : r ≡ Ended.Full → FullIs st
   pub large-is : r ≡ Ended.Large → st ≡ large
   pub long-is : r ≡ Ended.Long → st ≡ long
 
 -- ---- all stretches
--- an admitted query, and an input and a joined array within the limits
-pub record Admitted (q i j : List ℕ) : Type 0 where
+-- the byte forms of an admitted query, and of an input and a joined array within the limits
+pub record Forms (q i j : List ℕ) : Type 0 where
   pub query : List Stage
   pub query-is : q ≡ queryBytes query
   pub query-ok : OkQ query
@@ -56,4 +56,4 @@ pub record Admitted (q i j : List ℕ) : Type 0 where
 -- whatever query and arrays these bytes are, r says what the plain run's stages come to
 abbrev pub Runs : (q i j w : List ℕ) → Ended → Type 0
 Runs q i j w r = (ss : List Stage) (ts us : List Tree) → q ≡ queryBytes ss → OkQ ss → i ≡ arrayBytes ts → Within ts → j ≡ arrayBytes us → Within us
-    → Ends w r (stages us ss (going ts))
+    → EndedIs w r (stages us ss (going ts))

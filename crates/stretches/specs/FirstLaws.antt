@@ -1,31 +1,31 @@
 -- Laws of the first stretch: what is right for the trees that are left is right for all.
 use mathlib.Core.Path.{_≡_, refl, sym, ap, subst, _∙_}
-use mathlib.Core.List.{List, [], _∷_, _++_}
-use mathlib.Core.Bool.{Bool, true, false}
-use Prim.Native.Nat.{ℕ, _+_, _-_, _*_, _≤_, _<_}
+use mathlib.Core.List.{List, [], _∷_}
+use mathlib.Core.Bool.{true, false}
+use Prim.Native.Nat.{ℕ, _+_, _-_, _≤_}
 use native.Mathlib.Omega.{arith}
 use lib.ListN.{length, take, drop}
-use Rattle.format.specs.declared.area.Out.{Out}
-use Rattle.format.specs.declared.area.Out.the-variants.{At, TooLarge}
-use Rattle.format.specs.Limits.{treeMax, depthMax, workMin}
-use Rattle.format.specs.Tree.{Tree}
-use Rattle.format.specs.SizeLaws.{length-tree}
-use Rattle.format.specs.Bytes.{treeBytes}
-use Rattle.format.specs.Within.{Allowed, AllowedA}
-use Rattle.format.specs.Area.{Is, Wrote, fieldEnd}
-use Rattle.format.specs.AreaLaws.{is-part, told, written}
-use Rattle.query.specs.Query.{Stage}
-use Rattle.query.specs.Places.{arrayTrees, HoldsOk}
-use Rattle.stages.specs.Stages.{State, going, stages}
-use Rattle.stream.specs.declared.sink.Sink.{Sink}
-use Rattle.stream.specs.declared.sink.Sink.the-variants.{Len, Over, Large}
-use Rattle.stream.specs.Stretch.{before}
-use Rattle.stream.specs.StretchLaws.{before-free}
-use Rattle.stream.specs.Sink.{isLarge, ends, Collects, Open, Feeds}
-use Rattle.stream.specs.SinkLaws.{feeds-move, feeds-more, feeds-stop, feeds-none, feeds-open}
+use Rattle.areas.specs.declared.area.Out.{Out}
+use Rattle.areas.specs.declared.area.Out.the-variants.{At}
+use Rattle.spec_trees.specs.Limits.{treeMax, depthMax}
+use Rattle.spec_trees.specs.Tree.{Tree}
+use Rattle.spec_trees.specs.SizeLaws.{length-tree}
+use Rattle.spec_trees.specs.Bytes.{treeBytes}
+use Rattle.spec_trees.specs.Within.{Allowed, AllowedA}
+use Rattle.areas.specs.Area.{Is, Wrote, fieldEnd}
+use Rattle.areas.specs.AreaLaws.{is-part, told, written}
+use Rattle.spec_queries.specs.Query.{Stage}
+use Rattle.queries.specs.Places.{arrayTrees, HoldsOk}
+use Rattle.spec_stages.specs.Stages.{State, going, stages}
+use Rattle.stream.specs.declared.collector.Collector.{Collector}
+use Rattle.stream.specs.declared.collector.Collector.the-variants.{Len, Large}
+use Rattle.spec_stages.specs.Stretch.{before}
+use Rattle.spec_stages.specs.StretchLaws.{before-free}
+use Rattle.stream.specs.Collector.{isLarge, ends, Collects, Open, Feeds}
+use Rattle.stream.specs.CollectorLaws.{feeds-move, feeds-more, feeds-stop, feeds-none, feeds-open}
 use Rattle.stream.specs.TailLaws.{ends-beyond}
 use Rattle.stream.specs.Feed.{Planned, Front, FeedReady, FeedPost}
-use Rattle.query.specs.TreesLaws.{array-parts, array-none}
+use Rattle.queries.specs.TreesLaws.{array-parts, array-none}
 use Rattle.stretches.specs.Stretch.{Shows, FirstReady, FirstPost}
 
 -- ---- from nothing
@@ -37,25 +37,25 @@ collects-nothing : (w : List ℕ) → Collects w (Len 0) []
 unfolding Collects
 collects-nothing w = (refl, omega arith, refl)
 
-pub shows-all : {w v : List ℕ} {r : Sink} {st : State} → Feeds w (Len 0) v r st → Shows v r st
+pub shows-all : {w v : List ℕ} {r : Collector} {st : State} → Feeds w (Len 0) v r st → Shows v r st
 shows-all {w} f = record { fed = f .fed [] (collects-nothing w) }
 
 -- ---- the trees from i on
-abbrev pub FirstFrom : (inp w : List ℕ) (s : Sink) (v q : List ℕ) (p e : ℕ) (j : List ℕ) (i : ℕ) → Sink → Type 0
+abbrev pub FirstFrom : (inp w : List ℕ) (s : Collector) (v q : List ℕ) (p e : ℕ) (j : List ℕ) (i : ℕ) → Collector → Type 0
 FirstFrom inp w s v q p e j i r = (ts : List Tree) (ss : List Stage) (us : List Tree) → AllowedA ts → Is inp i (length inp) (arrayTrees ts) → Planned q p e j ss us
     → Feeds w s v r (stages us (before ss) (going ts))
 
-pub record FirstGoing (inp w₀ q : List ℕ) (p e : ℕ) (j w : List ℕ) (s : Sink) (i : ℕ) : Type 0 where
+pub record FirstGoing (inp w₀ q : List ℕ) (p e : ℕ) (j w : List ℕ) (s : Collector) (i : ℕ) : Type 0 where
   pub left : HoldsOk AllowedA arrayTrees inp i (length inp)
   pub same : length w ≡ length w₀
   pub goes : Open s
-  pub right : (v : List ℕ) (r : Sink) → FirstFrom inp w s v q p e j i r → FirstFrom inp w₀ (Len 0) v q p e j 3 r
+  pub right : (v : List ℕ) (r : Collector) → FirstFrom inp w s v q p e j i r → FirstFrom inp w₀ (Len 0) v q p e j 3 r
 
 module _ {inp w₀ q : List ℕ} {p e : ℕ} {j : List ℕ} (h : FirstReady inp w₀ q p e j) where
   pub first-begin : FirstGoing inp w₀ q p e j w₀ (Len 0) 3
   first-begin = record { left = h .input; same = refl; goes = open-nothing; right = λ v r k. k }
 
-  module _ {w : List ℕ} {s : Sink} {i : ℕ} (g : FirstGoing inp w₀ q p e j w s i) where
+  module _ {w : List ℕ} {s : Collector} {i : ℕ} (g : FirstGoing inp w₀ q p e j w s i) where
     pub first-room : 27988 ≤ length w
     first-room = omega (arith, h .room, g .same)
 
@@ -109,7 +109,7 @@ module _ {inp w₀ q : List ℕ} {p e : ℕ} {j : List ℕ} (h : FirstReady inp 
               goes = g .goes;
             }
 
-        module _ {x : List ℕ} {r : Sink} (y : length x ≡ length v) (f : FeedPost v x (m - i) q p e j s r) where
+        module _ {x : List ℕ} {r : Collector} (y : length x ≡ length v) (f : FeedPost v x (m - i) q p e j s r) where
           fed : (t : Tree) (ss : List Stage) (us : List Tree) → Allowed depthMax t → Is inp i m (treeBytes t) → Planned q p e j ss us
               → Feeds w s x r (stages us (before ss) (going (t ∷ [])))
           fed t ss us a b d = feeds-move first-ends refl (f ss us t d (first-front t a b))

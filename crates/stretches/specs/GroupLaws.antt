@@ -1,5 +1,5 @@
--- Laws of a group: the subsets of its pairs, the tree of a class and what becomes of it, and one tree of the array, one subset
--- after another.
+-- Laws of a group: the subsets of its pairs, the tree of a class and what becomes of it, and one tree of the array,
+-- one subset after another.
 use mathlib.Core.Path.{_≡_, refl, sym, ap, subst, _∙_}
 use mathlib.Core.List.{List, [], _∷_, _++_, map, append-nil, append-assoc}
 use mathlib.Core.Bool.{Bool, true, false, cond, _&&_}
@@ -8,50 +8,51 @@ use Prim.Native.Nat.{ℕ, zero, suc, _+_, _-_, _*_, _^_, _≤_}
 use native.Mathlib.Omega.{arith}
 use native.Mathlib.Numerals.{unary-clauses}
 use lib.ListN.{length, take}
-use Rattle.format.specs.declared.area.Out.{Out}
-use Rattle.format.specs.declared.area.Out.the-variants.{At, TooLarge}
-use Rattle.format.specs.Options.{_>>=_}
-use Rattle.format.specs.OptionLaws.{true-T, some-equal}
-use Rattle.format.specs.Lists.{filter, All, gather, each}
-use Rattle.format.specs.ListLaws.{All-append, All-filter, All-map}
-use Rattle.format.specs.Limits.{depthMax, groupingMax}
-use Rattle.format.specs.Tree.{Tree, v}
-use Rattle.format.specs.Size.{fits}
-use Rattle.format.specs.Bytes.{bytes, treeFs, treeBytes}
-use Rattle.format.specs.Within.{Ok, Allowed, AllowedA}
-use Rattle.format.specs.Area.{Is, fieldEnd}
-use Rattle.format.specs.AreaLaws.{is-keep, is-join}
-use Rattle.query.specs.Query.{Pair, Stage}
-use Rattle.query.specs.Bytes.{pairF}
-use Rattle.query.specs.Rules.{OkPair, OkPairs}
-use Rattle.query.specs.Places.{pairsBytes, arrayTrees, HoldsOk}
-use Rattle.query.specs.PartLaws.{list-parts, list-none}
-use Rattle.stages.specs.Paths.{over, apply}
-use Rattle.stages.specs.Merge.{merge, build}
-use Rattle.stages.specs.Group.{alike, Class, upto, grouped, aggregated, identified, sourced, classTree}
-use Rattle.stages.specs.Stages.{going, large, after, stages}
-use Rattle.stages.specs.Join.{beside}
-use Rattle.stages.specs.JoinLaws.{gather-append, each-join}
-use Rattle.stages.specs.KeepLaws.{merge-ok, over-ok, apply-ok, labelled, placed-ok, allowed-ok, fits-allowed}
-use Rattle.reading.specs.Keys.{FewPairs}
-use Rattle.reading.specs.KeyLaws.{few-pairs}
-use Rattle.reading.specs.Walk.{given}
-use Rattle.reading.specs.ComparedLaws.{is-none, trees-append, one-bytes}
-use Rattle.making.specs.Made.{Made}
-use Rattle.grouping.specs.Classes.{begins, scan, BeginsReady, BeginsIs}
-use Rattle.grouping.specs.ClassesLaws.{grouped-scan}
-use Rattle.grouping.specs.Class.{ClassReady, MakesClass}
-use Rattle.query.specs.TreesLaws.{ArrayParts, array-parts, array-none}
-use Rattle.stream.specs.declared.sink.Sink.{Sink}
-use Rattle.stream.specs.declared.sink.Sink.the-variants.{Len, Over, Large}
-use Rattle.stream.specs.Stretch.{before}
-use Rattle.stream.specs.StretchLaws.{before-free}
-use Rattle.stream.specs.Sink.{isLarge, ends, Open, Feeds}
-use Rattle.stream.specs.SinkLaws.{feeds-beside, feeds-halt, feeds-none, feeds-large, feeds-open, feeds-lent}
+use Rattle.areas.specs.declared.area.Out.{Out}
+use Rattle.areas.specs.declared.area.Out.the-variants.{At, TooLarge}
+use Rattle.spec_trees.specs.Options.{_>>=_}
+use Rattle.spec_trees.specs.OptionLaws.{true-T, some-equal}
+use Rattle.spec_trees.specs.Lists.{filter, All, gather, each}
+use Rattle.spec_trees.specs.ListLaws.{All-append, All-filter, All-map}
+use Rattle.spec_trees.specs.Limits.{depthMax, groupingMax}
+use Rattle.spec_trees.specs.Tree.{Tree, bareVoid}
+use Rattle.spec_trees.specs.Size.{fits}
+use Rattle.spec_trees.specs.Bytes.{bytes, treeFs, treeBytes}
+use Rattle.spec_trees.specs.Within.{Ok, Allowed, AllowedA}
+use Rattle.areas.specs.Area.{Is, fieldEnd}
+use Rattle.areas.specs.AreaLaws.{is-keep, is-join}
+use Rattle.spec_queries.specs.Query.{Pair, Stage}
+use Rattle.spec_queries.specs.Bytes.{pairF}
+use Rattle.spec_queries.specs.Rules.{OkPair, OkPairs}
+use Rattle.queries.specs.Places.{pairsBytes, arrayTrees, HoldsOk}
+use Rattle.queries.specs.PartLaws.{list-parts, list-none}
+use Rattle.spec_stages.specs.Paths.{over, apply}
+use Rattle.spec_stages.specs.Merge.{merge, build}
+use Rattle.spec_stages.specs.Group.{alike, Class, upto, grouped, aggregated, identified, sourced, classTree}
+use Rattle.spec_stages.specs.Stages.{going, large, after, stages}
+use Rattle.spec_stages.specs.Join.{beside}
+use Rattle.spec_stages.specs.JoinLaws.{gather-append, each-join}
+use Rattle.spec_stages.specs.KeepLaws.{merge-ok, over-ok, apply-ok, labelled, placed-ok, allowed-ok, fits-allowed}
+use Rattle.group.specs.Keys.{FewPairs}
+use Rattle.group.specs.KeyLaws.{few-pairs}
+use Rattle.paths.specs.Walk.{given}
+use Rattle.paths.specs.ComparedLaws.{is-none, trees-append, one-bytes}
+use Rattle.build.specs.Made.{Made}
+use Rattle.group.specs.First.{BeginsReady, BeginsIs}
+use Rattle.spec_stages.specs.Classes.{begins, scan}
+use Rattle.spec_stages.specs.ClassesLaws.{grouped-scan}
+use Rattle.group.specs.Class.{ClassReady, MakesClass}
+use Rattle.queries.specs.TreesLaws.{ArrayParts, array-parts, array-none}
+use Rattle.stream.specs.declared.collector.Collector.{Collector}
+use Rattle.stream.specs.declared.collector.Collector.the-variants.{Len, Over, Large}
+use Rattle.spec_stages.specs.Stretch.{before}
+use Rattle.spec_stages.specs.StretchLaws.{before-free}
+use Rattle.stream.specs.Collector.{isLarge, ends, Open, Feeds}
+use Rattle.stream.specs.CollectorLaws.{feeds-beside, feeds-halt, feeds-none, feeds-large, feeds-open, feeds-lent}
 use Rattle.stream.specs.Tails.{tail, lent}
 use Rattle.stream.specs.TailLaws.{tail-is, tail-length, lent-front, ends-beyond}
 use Rattle.stream.specs.Feed.{Planned, Front, FeedReady, FeedPost}
-use Rattle.stream.specs.StageLaws.{build-fits, void-fits}
+use Rattle.spec_stages.specs.StageLaws.{build-fits, void-fits}
 use Rattle.stretches.specs.Stretch.{Pairs, Gathered, GroupReady, GroupPost, through}
 use Rattle.stretches.specs.FirstLaws.{open-nothing, shows-all}
 use Rattle.stretches.specs.Grouping.{SubsetsIs, begun, ClassFrom, ClassFed, SubsetReady, SubsetFed}
@@ -104,11 +105,11 @@ class-allowed ags gs t ts {y} oa og ot ots e =
     (λ p l. placed-ok (p .target) (labelled (p .target) (l .1 .0)) (apply (p .source) (c .0)) (apply-ok (p .source) (c .0) (ot .ok)))
     (filter (sourced c) gs) (All-filter OkPair (sourced c) gs (og .0)))
     in
-    fits-allowed y (built-ok v parts (tt, tt) ok e) (true-T (build-fits v parts void-fits e))
+    fits-allowed y (built-ok bareVoid parts (tt, tt) ok e) (true-T (build-fits bareVoid parts void-fits e))
 
 -- ---- no class, one, and some before others
 module _ (us : List Tree) (ss : List Stage) (ags gs : List Pair) where
-  through-none : (w : List ℕ) (s : Sink) → Feeds w s w s (through us ss ags gs [])
+  through-none : (w : List ℕ) (s : Collector) → Feeds w s w s (through us ss ags gs [])
   unfolding through each after
   through-none w s = feeds-none w s us (before ss) (before-free ss)
 
@@ -124,15 +125,15 @@ module _ (us : List Tree) (ss : List Stage) (ags gs : List Pair) where
   unfolding through
   through-join a b = each-join us (before ss) (classTree ags gs) a b (before-free ss)
 
-  module _ {t t2 : List ℕ} {s s2 : Sink} (w : List ℕ) (a b : List Class) (p : Feeds t s t2 s2 (through us ss ags gs a)) where
-    through-more : {r : Sink} → isLarge s2 ≡ false → Feeds t2 s2 w r (through us ss ags gs b) → Feeds t s w r (through us ss ags gs (a ++ b))
+  module _ {t t2 : List ℕ} {s s2 : Collector} (w : List ℕ) (a b : List Class) (p : Feeds t s t2 s2 (through us ss ags gs a)) where
+    through-more : {r : Collector} → isLarge s2 ≡ false → Feeds t2 s2 w r (through us ss ags gs b) → Feeds t s w r (through us ss ags gs (a ++ b))
     through-more {r} o k = subst (λ x. Feeds t s w r x) (sym (through-join a b)) (feeds-beside w (through us ss ags gs a) (through us ss ags gs b) p o k)
 
     through-stop : isLarge s2 ≡ true → Feeds t s w Large (through us ss ags gs (a ++ b))
     through-stop o = subst (λ x. Feeds t s w Large x) (sym (through-join a b)) (feeds-halt w (through us ss ags gs a) (through us ss ags gs b) p o)
 
 -- ---- one tree of the array
-module _ {w : List ℕ} {n : ℕ} {q : List ℕ} {f u g h m e : ℕ} {j : List ℕ} {x xe : ℕ} {s : Sink} (c : ClassFrom w n q f u g h m e j x xe s) where
+module _ {w : List ℕ} {n : ℕ} {q : List ℕ} {f u g h m e : ℕ} {j : List ℕ} {x xe : ℕ} {s : Collector} (c : ClassFrom w n q f u g h m e j x xe s) where
   pub class-asked : BeginsReady w q g h 0 x xe
   class-asked = record {
     grouping = record { value = c .ready .grouping; allowed = c .ready .pairs .grouping-ok; value-is = c .ready .pairs .grouping-is };
@@ -199,7 +200,7 @@ module _ {w : List ℕ} {n : ℕ} {q : List ℕ} {f u g h m e : ℕ} {j : List �
         goes = c .goes;
       }
 
-      module _ {y2 : List ℕ} {r : Sink} (l2 : length y2 ≡ length (tail 21844 y)) (p : FeedPost (tail 21844 y) y2 (d - 21844) q m e j s r) where
+      module _ {y2 : List ℕ} {r : Collector} (l2 : length y2 ≡ length (tail 21844 y)) (p : FeedPost (tail 21844 y) y2 (d - 21844) q m e j s r) where
         pub class-fed : {k : ℕ} {b : Bool} → BeginsIs w q g h 0 x xe k b → b ≡ true → ClassFed w (lent 21844 y y2) n q f u g h k m e j x xe s r
         class-fed says z = record {
           kept = lent-front 21844 y y2 (class-places .1) l2 ∙ made-here .below;
@@ -253,20 +254,20 @@ unfolding given
 one-more {w} {x} {xe} seen t h k = subst (λ i. Is w 0 xe i) (sym (trees-append seen (t ∷ []))) (is-join h (subst (λ i. Is w x xe i) (one-bytes t) k))
 
 -- the trees from x on, in an area in which the array stands as in w₀
-abbrev pub ScanFrom : (w₀ w : List ℕ) (n : ℕ) (q : List ℕ) (f u g h k m e : ℕ) (j : List ℕ) (s : Sink) (v : List ℕ) (x : ℕ) → Sink → Type 0
+abbrev pub ScanFrom : (w₀ w : List ℕ) (n : ℕ) (q : List ℕ) (f u g h k m e : ℕ) (j : List ℕ) (s : Collector) (v : List ℕ) (x : ℕ) → Collector → Type 0
 ScanFrom w₀ w n q f u g h k m e j s v x r = (ags gs : List Pair) (seen ts : List Tree) (ss : List Stage) (us : List Tree) → Pairs q f u g h ags gs
     → AllowedA seen → Is w₀ 0 x (arrayTrees seen) → AllowedA ts → Is w₀ x n (arrayTrees ts) → Planned q m e j ss us
     → Feeds w s v r (through us ss ags gs (scan gs k seen ts))
 
-pub record ScanGoing (w₀ : List ℕ) (n : ℕ) (q : List ℕ) (f u g h k m e : ℕ) (j : List ℕ) (s₀ : Sink) (w : List ℕ) (s : Sink) (x : ℕ) : Type 0 where
+pub record ScanGoing (w₀ : List ℕ) (n : ℕ) (q : List ℕ) (f u g h k m e : ℕ) (j : List ℕ) (s₀ : Collector) (w : List ℕ) (s : Collector) (x : ℕ) : Type 0 where
   pub seen : HoldsOk AllowedA arrayTrees w₀ 0 x
   pub left : HoldsOk AllowedA arrayTrees w₀ x n
   pub same : length w ≡ length w₀
   pub kept : take 21844 w ≡ take 21844 w₀
   pub goes : Open s
-  pub right : (v : List ℕ) (r : Sink) → ScanFrom w₀ w n q f u g h k m e j s v x r → ScanFrom w₀ w₀ n q f u g h k m e j s₀ v 0 r
+  pub right : (v : List ℕ) (r : Collector) → ScanFrom w₀ w n q f u g h k m e j s v x r → ScanFrom w₀ w₀ n q f u g h k m e j s₀ v 0 r
 
-module _ {w₀ : List ℕ} {n : ℕ} {q : List ℕ} {f u g h m e : ℕ} {j : List ℕ} {s₀ : Sink} (c : SubsetReady w₀ n q f u g h m e j s₀) (k : ℕ) where
+module _ {w₀ : List ℕ} {n : ℕ} {q : List ℕ} {f u g h m e : ℕ} {j : List ℕ} {s₀ : Collector} (c : SubsetReady w₀ n q f u g h m e j s₀) (k : ℕ) where
   pub scan-begin : ScanGoing w₀ n q f u g h k m e j s₀ w₀ s₀ 0
   scan-begin = record {
     seen = record { value = []; allowed = tt; value-is = no-trees };
@@ -277,13 +278,13 @@ module _ {w₀ : List ℕ} {n : ℕ} {q : List ℕ} {f u g h m e : ℕ} {j : Lis
     right = λ v r i. i;
   }
 
-  subset-fed : {v : List ℕ} {r : Sink} → take 21844 v ≡ take 21844 w₀ → ScanFrom w₀ w₀ n q f u g h k m e j s₀ v 0 r → SubsetFed w₀ v n q f u g h k m e j s₀ r
+  subset-fed : {v : List ℕ} {r : Collector} → take 21844 v ≡ take 21844 w₀ → ScanFrom w₀ w₀ n q f u g h k m e j s₀ v 0 r → SubsetFed w₀ v n q f u g h k m e j s₀ r
   subset-fed l p = record {
     kept = l;
     feeds = λ ags gs ts ss us hp hg hl. p ags gs [] ts ss us hp tt no-trees (hg .allowed) (hg .trees-is) hl;
   }
 
-  module _ {w : List ℕ} {s : Sink} {x : ℕ} (i : ScanGoing w₀ n q f u g h k m e j s₀ w s x) where
+  module _ {w : List ℕ} {s : Collector} {x : ℕ} (i : ScanGoing w₀ n q f u g h k m e j s₀ w s x) where
     pub scan-end : x ≡ n → SubsetFed w₀ w n q f u g h k m e j s₀ s
     scan-end z = subset-fed (i .kept) (i .right w s last)
       where
@@ -329,7 +330,7 @@ module _ {w₀ : List ℕ} {n : ℕ} {q : List ℕ} {f u g h m e : ℕ} {j : Lis
         rest = record { value = here .rest; allowed = here-allowed .1; value-is = there (omega arith) (here .rest-is) };
       }
 
-      module _ {y : List ℕ} {r : Sink} (l : length y ≡ length w) (p : ClassFed w y n q f u g h k m e j x xe s r) where
+      module _ {y : List ℕ} {r : Collector} (l : length y ≡ length w) (p : ClassFed w y n q f u g h k m e j x xe s r) where
         scan-fed : (ags gs : List Pair) (seen : List Tree) (t : Tree) (ts : List Tree) (ss : List Stage) (us : List Tree) → Pairs q f u g h ags gs
             → AllowedA seen → Is w₀ 0 x (arrayTrees seen) → Allowed depthMax t → Is w₀ x xe (treeBytes t) → AllowedA ts → Is w₀ xe n (arrayTrees ts) → Planned q m e j ss us
             → Feeds w s y r (through us ss ags gs (begun gs k seen t ts))
@@ -372,7 +373,7 @@ module _ {w₀ : List ℕ} {n : ℕ} {q : List ℕ} {f u g h m e : ℕ} {j : Lis
         }
 
 -- ---- one subset after another
-open-small : (s : Sink) → Open s → isLarge s ≡ false
+open-small : (s : Collector) → Open s → isLarge s ≡ false
 unfolding Open isLarge
 open-small (Len n) o = refl
 open-small Over o = refl
@@ -401,7 +402,7 @@ gather-zero f = refl
 abbrev pub found : List Pair → List Tree → ℕ → List Class
 found gs ts k = gather (λ i. scan gs i [] ts) (upto k)
 
-pub record GroupGoing (w₀ : List ℕ) (n : ℕ) (q : List ℕ) (f u g h m e : ℕ) (j w : List ℕ) (s : Sink) (total k : ℕ) : Type 0 where
+pub record GroupGoing (w₀ : List ℕ) (n : ℕ) (q : List ℕ) (f u g h m e : ℕ) (j w : List ℕ) (s : Collector) (total k : ℕ) : Type 0 where
   pub below : k ≤ total
   pub same : length w ≡ length w₀
   pub kept : take 21844 w ≡ take 21844 w₀
@@ -424,7 +425,7 @@ module _ {w₀ : List ℕ} {n : ℕ} {q : List ℕ} {f u g h m e : ℕ} {j : Lis
         subst (λ l. Feeds w₀ (Len 0) w₀ (Len 0) (through us ss ags gs l)) (sym (gather-zero (λ i. scan gs i [] ts))) (through-none us ss ags gs w₀ (Len 0));
   }
 
-  module _ {w : List ℕ} {s : Sink} {k : ℕ} (i : GroupGoing w₀ n q f u g h m e j w s total k) where
+  module _ {w : List ℕ} {s : Collector} {k : ℕ} (i : GroupGoing w₀ n q f u g h m e j w s total k) where
     pub group-end : SubsetsIs q g h total → k ≡ total → GroupPost w₀ w n q f u g h m e j s
     group-end t z ags gs ts ss us hp hg hl =
         shows-all (subst (λ l. Feeds w₀ (Len 0) w s (through us ss ags gs l)) (sym (grouped-scan gs ts ∙ ap (found gs ts) (sym (z ∙ t gs (hp .grouping-is)))))
@@ -433,7 +434,7 @@ module _ {w₀ : List ℕ} {n : ℕ} {q : List ℕ} {f u g h m e : ℕ} {j : Lis
     pub group-subset : SubsetReady w n q f u g h m e j s
     group-subset = record { ready = ready-kept (i .kept) (i .same) c; goes = i .goes }
 
-    module _ (ne : k ≡ total → ⊥) {y : List ℕ} {r : Sink} (l : length y ≡ length w) (p : SubsetFed w y n q f u g h k m e j s r) where
+    module _ (ne : k ≡ total → ⊥) {y : List ℕ} {r : Collector} (l : length y ≡ length w) (p : SubsetFed w y n q f u g h k m e j s r) where
       found-more : (gs : List Pair) (ts : List Tree) → found gs ts (k + 1) ≡ found gs ts k ++ scan gs k [] ts
       found-more gs ts =
           let a : ℕ → List Class = λ b. scan gs b [] ts in

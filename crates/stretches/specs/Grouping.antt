@@ -1,22 +1,22 @@
--- What the functions inside a group ask of the areas, and what they do: subset by subset, the array's trees are asked whether
--- they begin a class, and the trees of the classes go through the stages behind the group.
+-- What the functions inside a group ask of the areas, and what they do: subset by subset, the array's trees are asked
+-- whether they begin a class, and the trees of the classes go through the stages behind the group.
 use mathlib.Core.Path.{_≡_}
 use mathlib.Core.List.{List, [], _∷_}
 use mathlib.Core.Bool.{cond}
 use Prim.Native.Nat.{ℕ, _^_}
 use lib.ListN.{length, take}
-use Rattle.format.specs.Limits.{depthMax}
-use Rattle.format.specs.Lists.{filter}
-use Rattle.format.specs.Tree.{Tree}
-use Rattle.format.specs.Bytes.{treeBytes}
-use Rattle.format.specs.Within.{Allowed, AllowedA}
-use Rattle.format.specs.Area.{Is}
-use Rattle.query.specs.Query.{Pair, Stage}
-use Rattle.query.specs.Places.{pairsBytes, arrayTrees, HoldsOk}
-use Rattle.stages.specs.Group.{Class, alike}
-use Rattle.grouping.specs.Classes.{begins, scan}
-use Rattle.stream.specs.declared.sink.Sink.{Sink}
-use Rattle.stream.specs.Sink.{Open, Feeds}
+use Rattle.spec_trees.specs.Limits.{depthMax}
+use Rattle.spec_trees.specs.Lists.{filter}
+use Rattle.spec_trees.specs.Tree.{Tree}
+use Rattle.spec_trees.specs.Bytes.{treeBytes}
+use Rattle.spec_trees.specs.Within.{Allowed, AllowedA}
+use Rattle.areas.specs.Area.{Is}
+use Rattle.spec_queries.specs.Query.{Pair, Stage}
+use Rattle.queries.specs.Places.{pairsBytes, arrayTrees, HoldsOk}
+use Rattle.spec_stages.specs.Group.{Class, alike}
+use Rattle.spec_stages.specs.Classes.{begins, scan}
+use Rattle.stream.specs.declared.collector.Collector.{Collector}
+use Rattle.stream.specs.Collector.{Open, Feeds}
 use Rattle.stream.specs.Feed.{Planned}
 use Rattle.stretches.specs.Stretch.{Pairs, Gathered, GroupReady, through}
 
@@ -31,7 +31,7 @@ abbrev pub begun : List Pair → ℕ → List Tree → Tree → List Tree → Li
 begun gs k seen t ts = cond (begins gs k seen t) ((t, filter (alike gs t) ts) ∷ []) []
 
 -- the array's trees before x, the one from x to xe, and those behind it
-pub record ClassFrom (w : List ℕ) (n : ℕ) (q : List ℕ) (f u g h m e : ℕ) (j : List ℕ) (x xe : ℕ) (s : Sink) : Type 0 where
+pub record ClassFrom (w : List ℕ) (n : ℕ) (q : List ℕ) (f u g h m e : ℕ) (j : List ℕ) (x xe : ℕ) (s : Collector) : Type 0 where
   pub ready : GroupReady w n q f u g h m e j
   pub goes : Open s
   pub seen : HoldsOk AllowedA arrayTrees w 0 x
@@ -39,19 +39,19 @@ pub record ClassFrom (w : List ℕ) (n : ℕ) (q : List ℕ) (f u g h m e : ℕ)
   pub rest : HoldsOk AllowedA arrayTrees w xe n
 
 -- the tree of the class that begins there, if one does, went through the stages; the array stands as it stood
-pub record ClassFed (w v : List ℕ) (n : ℕ) (q : List ℕ) (f u g h k m e : ℕ) (j : List ℕ) (x xe : ℕ) (s r : Sink) : Type 0 where
+pub record ClassFed (w v : List ℕ) (n : ℕ) (q : List ℕ) (f u g h k m e : ℕ) (j : List ℕ) (x xe : ℕ) (s r : Collector) : Type 0 where
   pub kept : take 21844 v ≡ take 21844 w
   pub feeds : (ags gs : List Pair) (seen : List Tree) (t : Tree) (ts : List Tree) (ss : List Stage) (us : List Tree) → Pairs q f u g h ags gs
       → AllowedA seen → Is w 0 x (arrayTrees seen) → Allowed depthMax t → Is w x xe (treeBytes t) → AllowedA ts → Is w xe n (arrayTrees ts) → Planned q m e j ss us
       → Feeds w s v r (through us ss ags gs (begun gs k seen t ts))
 
 -- ---- one subset
-pub record SubsetReady (w : List ℕ) (n : ℕ) (q : List ℕ) (f u g h m e : ℕ) (j : List ℕ) (s : Sink) : Type 0 where
+pub record SubsetReady (w : List ℕ) (n : ℕ) (q : List ℕ) (f u g h m e : ℕ) (j : List ℕ) (s : Collector) : Type 0 where
   pub ready : GroupReady w n q f u g h m e j
   pub goes : Open s
 
 -- the trees of its classes went through the stages; the array stands as it stood
-pub record SubsetFed (w v : List ℕ) (n : ℕ) (q : List ℕ) (f u g h k m e : ℕ) (j : List ℕ) (s r : Sink) : Type 0 where
+pub record SubsetFed (w v : List ℕ) (n : ℕ) (q : List ℕ) (f u g h k m e : ℕ) (j : List ℕ) (s r : Collector) : Type 0 where
   pub kept : take 21844 v ≡ take 21844 w
   pub feeds : (ags gs : List Pair) (ts : List Tree) (ss : List Stage) (us : List Tree) → Pairs q f u g h ags gs → Gathered w n ts → Planned q m e j ss us
       → Feeds w s v r (through us ss ags gs (scan gs k [] ts))

@@ -3,20 +3,20 @@ use mathlib.Core.Path.{_≡_}
 use mathlib.Core.List.{List}
 use Prim.Native.Nat.{ℕ, _+_, _*_, _≤_}
 use lib.ListN.{length}
-use Rattle.format.specs.Limits.{treeMax, stagesMax, workMin}
-use Rattle.format.specs.Tree.{Tree}
-use Rattle.format.specs.Within.{AllowedA}
-use Rattle.query.specs.Query.{Pair, Stage}
-use Rattle.query.specs.Places.{arrayTrees}
-use Rattle.stages.specs.Group.{grouped}
-use Rattle.stages.specs.Stages.{State, going, large, long, stages}
-use Rattle.stream.specs.declared.sink.Sink.{Sink}
-use Rattle.stream.specs.declared.sink.Sink.the-variants.{Len}
-use Rattle.stream.specs.Stretch.{before, behind}
-use Rattle.stream.specs.Sink.{Collects}
+use Rattle.spec_trees.specs.Limits.{treeMax, stagesMax, workMin}
+use Rattle.spec_trees.specs.Tree.{Tree}
+use Rattle.spec_trees.specs.Within.{AllowedA}
+use Rattle.spec_queries.specs.Query.{Pair, Stage}
+use Rattle.queries.specs.Places.{arrayTrees}
+use Rattle.spec_stages.specs.Group.{grouped}
+use Rattle.spec_stages.specs.Stages.{State, going, large, long, stages}
+use Rattle.stream.specs.declared.collector.Collector.{Collector}
+use Rattle.stream.specs.declared.collector.Collector.the-variants.{Len}
+use Rattle.spec_stages.specs.Stretch.{before, behind}
+use Rattle.stream.specs.Collector.{Collects}
 use Rattle.stream.specs.Feed.{Planned}
 use Rattle.stretches.specs.declared.ended.Ended.{Ended}
-use Rattle.stretches.specs.Ended.{Ends}
+use Rattle.stretches.specs.Ended.{EndedIs}
 use Rattle.stretches.specs.Stretch.{Shows, Pairs, through}
 
 -- the trees of the state are allowed
@@ -26,8 +26,8 @@ Allows large = Unit {0}
 Allows long = Unit {0}
 
 -- what the answer says when no group is left
-abbrev pub LastPost : Sink → Ended → Type 0
-LastPost s r = (w : List ℕ) (st : State) → 21844 ≤ length w → Shows w s st → Ends w r st
+abbrev pub LastPost : Collector → Ended → Type 0
+LastPost s r = (w : List ℕ) (st : State) → 21844 ≤ length w → Shows w s st → EndedIs w r st
 
 -- ---- the array that the collector holds enters a group
 pub record HeldReady (w : List ℕ) (n : ℕ) (q : List ℕ) (f u g h m e : ℕ) (j : List ℕ) : Type 0 where
@@ -43,12 +43,12 @@ pub record HeldReady (w : List ℕ) (n : ℕ) (q : List ℕ) (f u g h m e : ℕ)
   pub room : treeMax * length (before list) + 49832 ≤ length w
   pub small : length w ≤ workMin
 
-abbrev pub HeldPost : (w v : List ℕ) (n : ℕ) (q : List ℕ) (f u g h m e : ℕ) (j : List ℕ) → Sink → Type 0
+abbrev pub HeldPost : (w v : List ℕ) (n : ℕ) (q : List ℕ) (f u g h m e : ℕ) (j : List ℕ) → Collector → Type 0
 HeldPost w v n q f u g h m e j r = (ags gs : List Pair) (ts : List Tree) (ss : List Stage) (us : List Tree) → Pairs q f u g h ags gs → AllowedA ts
     → Collects w (Len n) (arrayTrees ts) → Planned q m e j ss us → Shows v r (through us ss ags gs (grouped gs ts))
 
 -- ---- the stretches from the next group on
-pub record LaterReady (w q : List ℕ) (p e : ℕ) (j : List ℕ) (s : Sink) : Type 0 where
+pub record LaterReady (w q : List ℕ) (p e : ℕ) (j : List ℕ) (s : Collector) : Type 0 where
   pub state : State
   pub shown : Shows w s state
   pub allowed : Allows state
@@ -58,6 +58,6 @@ pub record LaterReady (w q : List ℕ) (p e : ℕ) (j : List ℕ) (s : Sink) : T
   pub few : length list ≤ stagesMax
   pub size : length w ≡ workMin
 
-abbrev pub LaterPost : (w v q : List ℕ) (p e : ℕ) (j : List ℕ) → Sink → Ended → Type 0
+abbrev pub LaterPost : (w v q : List ℕ) (p e : ℕ) (j : List ℕ) → Collector → Ended → Type 0
 LaterPost w v q p e j s r = (st : State) (ss : List Stage) (us : List Tree) → Shows w s st → Allows st → Planned q p e j ss us
-    → Ends v r (stages us (behind ss) st)
+    → EndedIs v r (stages us (behind ss) st)

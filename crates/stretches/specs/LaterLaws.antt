@@ -1,45 +1,38 @@
 -- Laws of the later stretches: one after another they come to what the plain run's stages come to.
 use mathlib.Core.Path.{_≡_, refl, sym, ap, subst, _∙_}
-use mathlib.Core.List.{List, [], _∷_, _++_, map}
-use mathlib.Core.Bool.{Bool, true, false, cond, not, _&&_}
-use mathlib.Core.Option.{Option, none, some, Option·map}
-use Prim.Native.Nat.{ℕ, suc, _+_, _-_, _*_, _≤_, _<_}
+use mathlib.Core.List.{List, _∷_}
+use mathlib.Core.Bool.{true, false}
+use mathlib.Core.Option.{none}
+use Prim.Native.Nat.{ℕ, suc, _+_, _-_, _≤_}
 use native.Mathlib.Omega.{arith}
-use lib.ListN.{length, take, drop, length-append}
+use lib.ListN.{length, take, drop}
 use lib.Seq.{take-add, drop-at, length-take-le}
-use lib.Dec.{leb}
-use Rattle.format.specs.declared.area.Out.{Out}
-use Rattle.format.specs.declared.area.Out.the-variants.{At, TooLarge}
-use Rattle.format.specs.Limits.{treeMax, depthMax, arrayMax, stagesMax, workMin}
-use Rattle.format.specs.Options.{_>>=_}
-use Rattle.format.specs.OptionLaws.{leb-yes, leb-no}
-use Rattle.format.specs.Lists.{All, filter, all, each}
-use Rattle.format.specs.ListLaws.{All-left, All-right}
-use Rattle.format.specs.Tree.{Tree, trees, v}
-use Rattle.format.specs.Size.{sizeA, arraySize, fits}
-use Rattle.format.specs.SizeLaws.{length-treeFs}
-use Rattle.format.specs.Within.{Allowed, AllowedA}
-use Rattle.format.specs.Area.{Is, Wrote}
-use Rattle.format.specs.AreaLaws.{written}
-use Rattle.query.specs.Query.{Path, Item, Pair, Stage, group}
-use Rattle.query.specs.Rules.{OkS}
-use Rattle.query.specs.Places.{arrayTrees, stagesBytes}
-use Rattle.stages.specs.Merge.{build}
-use Rattle.stages.specs.Project.{item, projected}
-use Rattle.stages.specs.Lookup.{looked}
-use Rattle.stages.specs.Group.{Class, aggregated, identified, sourced, classTree, grouped}
-use Rattle.stages.specs.Stages.{State, going, large, long, isGroup, outcome, leaving, after, step, stages}
-use Rattle.stages.specs.KeepLaws.{stages-allowed}
-use Rattle.stream.specs.declared.sink.Sink.{Sink}
-use Rattle.stream.specs.declared.sink.Sink.the-variants.{Len, Over, Large}
-use Rattle.stream.specs.Stretch.{before, behind}
-use Rattle.stream.specs.StretchLaws.{before-behind, stretch, stages-large}
-use Rattle.stream.specs.StageLaws.{fits-of, build-fits, void-fits}
-use Rattle.stream.specs.Sink.{treesMax, isLarge, ends, Collects, Fed}
+use Rattle.areas.specs.declared.area.Out.the-variants.{At}
+use Rattle.spec_trees.specs.Limits.{arrayMax, stagesMax}
+use Rattle.spec_trees.specs.Lists.{All}
+use Rattle.spec_trees.specs.ListLaws.{All-left}
+use Rattle.spec_trees.specs.Tree.{Tree, trees}
+use Rattle.spec_trees.specs.Size.{arraySize}
+use Rattle.spec_trees.specs.SizeLaws.{length-treeFs}
+use Rattle.spec_trees.specs.Within.{AllowedA}
+use Rattle.areas.specs.Area.{Is, Wrote}
+use Rattle.areas.specs.AreaLaws.{written}
+use Rattle.spec_queries.specs.Query.{Stage, group}
+use Rattle.spec_queries.specs.Rules.{OkS}
+use Rattle.queries.specs.Places.{arrayTrees, stagesBytes}
+use Rattle.spec_stages.specs.Group.{grouped}
+use Rattle.spec_stages.specs.Stages.{State, going, large, long, after, step, stages}
+use Rattle.spec_stages.specs.KeepLaws.{stages-allowed}
+use Rattle.stream.specs.declared.collector.Collector.{Collector}
+use Rattle.stream.specs.declared.collector.Collector.the-variants.{Len, Over, Large}
+use Rattle.spec_stages.specs.Stretch.{before, behind}
+use Rattle.spec_stages.specs.StretchLaws.{before-behind, before-short, stretch, stages-large, stages-long, shorter, behind-ok}
+use Rattle.spec_stages.specs.LeaveLaws.{group-step, group-long}
+use Rattle.stream.specs.Collector.{treesMax, isLarge, ends, Collects, Fed}
 use Rattle.stream.specs.Feed.{Planned}
 use Rattle.stretches.specs.declared.ended.Ended.{Ended}
 use Rattle.stretches.specs.declared.next.Next.{Next}
-use Rattle.stretches.specs.Ended.{HeldIs, FullIs, Ends}
+use Rattle.stretches.specs.Ended.{HeldIs, FullIs, EndedIs}
 use Rattle.stretches.specs.Stretch.{Shows, Pairs, Gathered, GroupReady, GroupPost, through}
 use Rattle.stretches.specs.Next.{GroupIs, NextPost}
 use Rattle.stretches.specs.Later.{Allows, LastPost, HeldReady, HeldPost, LaterReady, LaterPost}
@@ -49,9 +42,9 @@ pub size-is : (ts : List Tree) → arraySize ts ≡ 3 + length (arrayTrees ts)
 unfolding arraySize
 size-is ts = omega (arith, length-treeFs (trees ts))
 
--- ---- what a sink shows
+-- ---- what a collector shows
 -- not both
-clash : {P : Type 0} {s : Sink} → isLarge s ≡ false → s ≡ Large → P
+clash : {P : Type 0} {s : Collector} → isLarge s ≡ false → s ≡ Large → P
 unfolding isLarge
 clash {s = s} o e = let z : isLarge s ≡ true = ap isLarge e in let y : _≡_ {A = ℕ} 0 1 = cc in absurd (omega arith)
 
@@ -94,7 +87,7 @@ unfolding Collects
 collects-short w n xs h = (h .1, h .0)
 
 -- ---- no group is left
-module _ {s : Sink} where
+module _ {s : Collector} where
   pub last-held : {n : ℕ} → s ≡ Len n → LastPost s (Ended.Held n)
   last-held {n} z w st b h =
       let x = shown-held w n st (subst (λ y. Shows w y st) z h) in
@@ -128,7 +121,7 @@ module _ {s : Sink} where
     long-is = λ q. let y : _≡_ {A = ℕ} 0 1 = cc in absurd (omega arith);
   }
 
-ends-large : (w : List ℕ) {st : State} → st ≡ large → Ends w Ended.Large st
+ends-large : (w : List ℕ) {st : State} → st ≡ large → EndedIs w Ended.Large st
 ends-large w z = record {
   held = λ m q. let y : _≡_ {A = ℕ} 0 1 = cc in absurd (omega arith);
   full = λ q. let y : _≡_ {A = ℕ} 0 1 = cc in absurd (omega arith);
@@ -136,7 +129,7 @@ ends-large w z = record {
   long-is = λ q. let y : _≡_ {A = ℕ} 0 1 = cc in absurd (omega arith);
 }
 
-ends-long : (w : List ℕ) {st : State} → st ≡ long → Ends w Ended.Long st
+ends-long : (w : List ℕ) {st : State} → st ≡ long → EndedIs w Ended.Long st
 ends-long w z = record {
   held = λ m q. let y : _≡_ {A = ℕ} 0 1 = cc in absurd (omega arith);
   full = λ q. let y : _≡_ {A = ℕ} 0 1 = cc in absurd (omega arith);
@@ -144,77 +137,14 @@ ends-long w z = record {
   long-is = λ q. z;
 }
 
--- ---- a group, of an array that is short enough or too long
--- trees that fit leave as they are
-pub each-fits : {A : Type 0} (P : A → Type 0) (f : A → Option Tree) → ((a : A) (y : Tree) → P a → f a ≡ some y → fits y ≡ true)
-    → (cs : List A) → All P cs → leaving (each f cs) ≡ each f cs
-unfolding each leaving all _>>=_
-each-fits P f h [] p = refl
-each-fits {A} P f h (c ∷ cs) p = go (f c) (each f cs) (λ y e. h c y (p .0) e) (each-fits P f h cs (p .1))
-  where
-    go : (x : Option Tree) (y : Option (List Tree)) → ((t : Tree) → x ≡ some t → fits t ≡ true) → leaving y ≡ y
-        → leaving (x >>= λ t. Option·map (λ ts. t ∷ ts) y) ≡ (x >>= λ t. Option·map (λ ts. t ∷ ts) y)
-    go none y k e = refl
-    go (some t) none k e = refl
-    go (some t) (some ts) k e = rw (k t refl) (more (all fits ts) e)
-      where
-        more : (b : Bool) → cond b (some ts) none ≡ some ts → cond b (some (t ∷ ts)) none ≡ some (t ∷ ts)
-        more true e = refl
-        more false e = let z : _≡_ {A = ℕ} 0 1 = cc in absurd (omega arith)
-
--- what is built from the bare void tree fits
-made-fits : {A : Type 0} (f : A → List Tree) (cs : List A) → leaving (each (λ c. build v (f c)) cs) ≡ each (λ c. build v (f c)) cs
-made-fits {A} f cs = each-fits (λ c. Unit {0}) (λ c. build v (f c)) (λ c y p e. build-fits v (f c) void-fits e) cs (any cs)
-  where
-    any : (xs : List A) → All (λ c. Unit {0}) xs
-    any [] = tt
-    any (x ∷ xs) = (tt, any xs)
-
-pub projected-leave : (is : List Item) (ts : List Tree) → leaving (each (projected is) ts) ≡ each (projected is) ts
-unfolding projected
-projected-leave is ts = made-fits (λ t. map (item t) is) ts
-
-pub looked-leave : (q r p : Path) (us ts : List Tree) → AllowedA ts → leaving (each (looked q r p us) ts) ≡ each (looked q r p us) ts
-unfolding looked
-looked-leave q r p us ts a = each-fits (Allowed depthMax) (looked q r p us) (λ t y h e. build-fits t _ (fits-of h) e) ts a
-
-classes-leave : (ags gs : List Pair) (cs : List Class) → leaving (each (classTree ags gs) cs) ≡ each (classTree ags gs) cs
-unfolding classTree
-classes-leave ags gs cs = made-fits (λ c. map (aggregated c) ags ++ map (identified c) (filter (sourced c) gs)) cs
-
-pub group-step : (us : List Tree) (ags gs : List Pair) (ts : List Tree) → arraySize ts ≤ arrayMax → step us (group ags gs) (going ts) ≡ after (each (classTree ags gs) (grouped gs ts))
-unfolding step isGroup outcome
-group-step us ags gs ts b = rw (leb-yes (arraySize ts) arrayMax b) (ap after (classes-leave ags gs (grouped gs ts)))
-
-group-long : (us : List Tree) (ags gs : List Pair) (ts : List Tree) → arrayMax < arraySize ts → step us (group ags gs) (going ts) ≡ long
-unfolding step isGroup
-group-long us ags gs ts b = rw (leb-no (arraySize ts) arrayMax b) refl
-
-stages-long : (us : List Tree) (ss : List Stage) → stages us ss long ≡ long
-unfolding stages step
-stages-long us [] = refl
-stages-long us (s ∷ ss) = stages-long us ss
-
-shorter : (ss : List Stage) → (length (before ss) ≤ length ss) × (length (behind ss) ≤ length ss)
-shorter ss =
-    let a = length-append (before ss) (behind ss) in
-    let b : length (before ss ++ behind ss) ≡ length ss = ap length (before-behind ss) in
-    (omega arith, omega arith)
-
-pub before-short : (ss : List Stage) → length (before ss) ≤ length ss
-before-short ss = shorter ss .0
-
-behind-ok : (ss : List Stage) → All OkS ss → All OkS (behind ss)
-behind-ok ss h = All-right OkS (before ss) (behind ss) (subst (All OkS) (sym (before-behind ss)) h)
-
 -- ---- the stretches from here on
 module _ {q : List ℕ} {p e : ℕ} {r : Next} (k : NextPost q p e r) where
-  pub later-last : (w : List ℕ) {j : List ℕ} (s : Sink) (o : Ended) → r ≡ Next.End → 21844 ≤ length w → LastPost s o → LaterPost w w q p e j s o
+  pub later-last : (w : List ℕ) {j : List ℕ} (s : Collector) (o : Ended) → r ≡ Next.End → 21844 ≤ length w → LastPost s o → LaterPost w w q p e j s o
   unfolding stages
   later-last w s o z b f st ss us h a d =
-      subst (λ l. Ends w o (stages us l st)) (sym (k ss (d .stages-is) .none z)) (f w st b h)
+      subst (λ l. EndedIs w o (stages us l st)) (sym (k ss (d .stages-is) .none z)) (f w st b h)
 
-  pub later-large : (w : List ℕ) {j : List ℕ} {s : Sink} → s ≡ Large → LaterPost w w q p e j s Ended.Large
+  pub later-large : (w : List ℕ) {j : List ℕ} {s : Collector} → s ≡ Large → LaterPost w w q p e j s Ended.Large
   later-large w z st ss us h a d =
       ends-large w (ap (stages us (behind ss)) (shown-large w st (subst (λ y. Shows w y st) z h)) ∙ stages-large us (behind ss))
 
@@ -269,14 +199,14 @@ module _ {q : List ℕ} {p e : ℕ} {r : Next} (k : NextPost q p e r) where
           go long y = tt
 
     -- an array that is too long enters it
-    pub later-long : (w : List ℕ) {j : List ℕ} {s : Sink} → s ≡ Over → LaterPost w w q p e j s Ended.Long
+    pub later-long : (w : List ℕ) {j : List ℕ} {s : Collector} → s ≡ Over → LaterPost w w q p e j s Ended.Long
     later-long w y st ss us h a d =
         let x = shown-over w st (subst (λ l. Shows w l st) y h) in
         let c = part ss us d in
         ends-long w (rest-is ss us d st ∙ ap (λ l. stages us (c .others) (step us (group (c .aggregates) (c .grouping)) l)) (x .same)
         ∙ ap (stages us (c .others)) (group-long us (c .aggregates) (c .grouping) (x .trees) (x .over)) ∙ stages-long us (c .others))
 
-    module _ {w : List ℕ} {s : Sink} {n : ℕ} (y : s ≡ Len n) where
+    module _ {w : List ℕ} {s : Collector} {n : ℕ} (y : s ≡ Len n) where
       held : (st : State) → Shows w s st → HeldState w n st
       held st h = shown-held w n st (subst (λ l. Shows w l st) y h)
 
@@ -312,7 +242,7 @@ module _ {q : List ℕ} {p e : ℕ} {r : Next} (k : NextPost q p e r) where
               small = omega (arith, l .size);
             }
 
-        module _ {x : List ℕ} {o : Sink} (b : length x ≡ length w) (i : HeldPost w x n q f t g u m e j o) where
+        module _ {x : List ℕ} {o : Collector} (b : length x ≡ length w) (i : HeldPost w x n q f t g u m e j o) where
           shown : (st : State) (ss : List Stage) (us : List Tree) (h : Shows w s st) → Allows st → (d : Planned q p e j ss us) → Shows x o (next-state ss us d (held st h .trees))
           unfolding next-state
           shown st ss us h a d =
@@ -334,7 +264,7 @@ module _ {q : List ℕ} {p e : ℕ} {r : Next} (k : NextPost q p e r) where
           pub later-next : {x2 : List ℕ} {o2 : Ended} → LaterPost x x2 q m e j o o2 → LaterPost w x2 q p e j s o2
           later-next {x2} {o2} c st ss us h a d =
               let ts = held st h .trees in
-              subst (λ y2. Ends x2 o2 y2)
+              subst (λ y2. EndedIs x2 o2 y2)
               (sym (ap (stages us (behind ss)) (held st h .same) ∙ next-is ss us d ts (held-short st h)))
               (c (next-state ss us d ts) (part ss us d .others) us (shown st ss us h a d)
               (next-allows ss us d ts (held-allowed st h a) (held-short st h)) (planned-of ss us d))
@@ -373,5 +303,5 @@ module _ {w : List ℕ} {n : ℕ} {q : List ℕ} {f u g h m e : ℕ} {j : List �
       small = omega (arith, r .small);
     }
 
-    pub held-post : (x2 : List ℕ) (o : Sink) → GroupPost x x2 n q f u g h m e j o → HeldPost w x2 n q f u g h m e j o
+    pub held-post : (x2 : List ℕ) (o : Collector) → GroupPost x x2 n q f u g h m e j o → HeldPost w x2 n q f u g h m e j o
     held-post x2 o p ags gs ts ss us a b c d = p ags gs ts ss us a (moved ts b c) d

@@ -2,11 +2,11 @@
 use mathlib.Core.Path.{_≡_}
 use mathlib.Core.List.{List, [], _∷_}
 use Prim.Native.Nat.{ℕ, _+_, _≤_}
-use Rattle.format.specs.Area.{Is}
-use Rattle.query.specs.Query.{Pair, Stage, group}
-use Rattle.query.specs.Places.{pairsBytes, stagesBytes}
-use Rattle.query.specs.declared.stage.StageAt.{StageAt}
-use Rattle.stream.specs.Stretch.{behind}
+use Rattle.areas.specs.Area.{Is}
+use Rattle.spec_queries.specs.Query.{Pair, Stage, group}
+use Rattle.queries.specs.Places.{pairsBytes, stagesBytes}
+use Rattle.queries.specs.declared.stage.StageAt.{StageAt}
+use Rattle.spec_stages.specs.Stretch.{behind}
 use Rattle.stretches.specs.declared.next.Next.{Next}
 
 -- a stage that ends at m, as a group
@@ -17,8 +17,8 @@ groupOf (StageAt.Project f t) m = Next.End
 groupOf (StageAt.Group f t g u) m = Next.Group f t g u m
 groupOf (StageAt.Lookup f t g u h v) m = Next.End
 
--- of the stages ss, up to e, the next group has its aggregates from f to t and its grouping pairs from g to u, and the others
--- stand behind it, from m on, which is behind p
+-- of the stages ss, up to e, the next group has its aggregates from f to t and its grouping pairs from g to u, and
+-- the others stand behind it, from m on, which is behind p
 pub record GroupIs (q : List ℕ) (p e : ℕ) (ss : List Stage) (f t g u m : ℕ) : Type 0 where
   pub aggregates : List Pair
   pub grouping : List Pair

@@ -1,21 +1,21 @@
 -- Laws of the search for the next group, stage by stage.
 use mathlib.Core.Path.{_≡_, refl, sym, ap, subst, _∙_}
-use mathlib.Core.List.{List, [], _∷_}
-use mathlib.Core.Bool.{Bool, true, false, cond}
+use mathlib.Core.List.{List, _∷_}
+use mathlib.Core.Bool.{false}
 use Prim.Native.Nat.{ℕ, _+_, _≤_}
 use native.Mathlib.Omega.{arith}
 use lib.ListN.{length}
-use Rattle.format.specs.Area.{Is, fieldEnd}
+use Rattle.areas.specs.Area.{Is, fieldEnd}
 use Rattle.format.specs.Stand.{Holds}
-use Rattle.query.specs.Query.{Pair, Stage, match, unwind, project, group, lookup}
-use Rattle.query.specs.Bytes.{stageF}
-use Rattle.query.specs.Places.{pairsBytes, stageBytes, stagesBytes, ReadsStage}
-use Rattle.query.specs.PartLaws.{list-parts, list-none}
-use Rattle.query.specs.declared.stage.StageAt.{StageAt}
-use Rattle.stages.specs.Stages.{isGroup}
-use Rattle.stream.specs.Stretch.{behind}
+use Rattle.spec_queries.specs.Query.{Pair, Stage, group}
+use Rattle.spec_queries.specs.Bytes.{stageF}
+use Rattle.queries.specs.Places.{pairsBytes, stageBytes, stagesBytes, ReadsStage}
+use Rattle.queries.specs.PartLaws.{list-parts, list-none}
+use Rattle.queries.specs.declared.stage.StageAt.{StageAt}
+use Rattle.spec_stages.specs.Stages.{isGroup}
+use Rattle.spec_stages.specs.Stretch.{behind}
 use Rattle.stretches.specs.declared.next.Next.{Next}
-use Rattle.stretches.specs.Next.{groupOf, GroupIs, NextIs, NextPost}
+use Rattle.stretches.specs.Next.{groupOf, NextIs, NextPost}
 
 behind-plain : (s : Stage) (ss : List Stage) → isGroup s ≡ false → behind (s ∷ ss) ≡ behind ss
 unfolding behind

@@ -1,28 +1,25 @@
--- What the functions of a stretch ask of the areas, and what they do: the trees of an array go through the stages up to the
--- next group, or are grouped, and the trees of the classes go on so.
-use mathlib.Core.Path.{_≡_}
-use mathlib.Core.List.{List, [], _∷_}
-use Prim.Native.Nat.{ℕ, _+_, _*_, _≤_, _^_}
-use lib.ListN.{length, take}
-use Rattle.format.specs.Limits.{treeMax, depthMax, aggregatesMax, groupingMax, workMin}
-use Rattle.format.specs.Lists.{each}
-use Rattle.format.specs.Tree.{Tree}
-use Rattle.format.specs.Bytes.{treeBytes}
-use Rattle.format.specs.Within.{Allowed, AllowedA}
-use Rattle.format.specs.Area.{Is}
-use Rattle.query.specs.Query.{Pair, Stage, group}
-use Rattle.query.specs.Rules.{OkPairs, OkS}
-use Rattle.query.specs.Places.{pairsBytes, stagesBytes, arrayTrees, HoldsOk}
-use Rattle.stages.specs.Group.{Class, classTree, grouped}
-use Rattle.stages.specs.Stages.{State, going, after, stages}
-use Rattle.stream.specs.declared.sink.Sink.{Sink}
-use Rattle.stream.specs.Stretch.{before, behind}
-use Rattle.stream.specs.Sink.{treesMax, Fed, Open, Feeds}
+-- What the functions of a stretch ask of the areas, and what they do: the trees of an array go through the stages up
+-- to the next group, or are grouped, and the trees of the classes go on so.
+use mathlib.Core.List.{List, []}
+use Prim.Native.Nat.{ℕ, _+_, _*_, _≤_}
+use lib.ListN.{length}
+use Rattle.spec_trees.specs.Limits.{treeMax, aggregatesMax, groupingMax, workMin}
+use Rattle.spec_trees.specs.Lists.{each}
+use Rattle.spec_trees.specs.Tree.{Tree}
+use Rattle.spec_trees.specs.Within.{AllowedA}
+use Rattle.areas.specs.Area.{Is}
+use Rattle.spec_queries.specs.Query.{Pair, Stage}
+use Rattle.spec_queries.specs.Rules.{OkPairs}
+use Rattle.queries.specs.Places.{pairsBytes, arrayTrees, HoldsOk}
+use Rattle.spec_stages.specs.Group.{Class, classTree, grouped}
+use Rattle.spec_stages.specs.Stages.{State, going, after, stages}
+use Rattle.stream.specs.declared.collector.Collector.{Collector}
+use Rattle.spec_stages.specs.Stretch.{before}
+use Rattle.stream.specs.Collector.{treesMax, Fed}
 use Rattle.stream.specs.Feed.{Planned}
-use Rattle.stretches.specs.declared.next.Next.{Next}
 
 -- the collector at the end of v has just the trees of the state
-pub record Shows (v : List ℕ) (r : Sink) (st : State) : Type 0 where
+pub record Shows (v : List ℕ) (r : Collector) (st : State) : Type 0 where
   pub fed : Fed v r [] st
 
 -- ---- the first stretch
@@ -36,7 +33,7 @@ pub record FirstReady (i w q : List ℕ) (p e : ℕ) (j : List ℕ) : Type 0 whe
   pub small : length w ≤ workMin
 
 -- whatever trees and stages stand there, what leaves the stretch was collected
-abbrev pub FirstPost : (i v q : List ℕ) (p e : ℕ) (j : List ℕ) → Sink → Type 0
+abbrev pub FirstPost : (i v q : List ℕ) (p e : ℕ) (j : List ℕ) → Collector → Type 0
 FirstPost i v q p e j r = (ts : List Tree) (ss : List Stage) (us : List Tree) → AllowedA ts → Is i 3 (length i) (arrayTrees ts) → Planned q p e j ss us
     → Shows v r (stages us (before ss) (going ts))
 
@@ -53,8 +50,8 @@ pub record Gathered (w : List ℕ) (n : ℕ) (ts : List Tree) : Type 0 where
   pub allowed : AllowedA ts
   pub trees-is : Is w 0 n (arrayTrees ts)
 
--- such pairs and trees, and the stages behind the group, from m to e; there is room for the array and the numbers behind it,
--- for a tree at each of the stages, for building and for the collector
+-- such pairs and trees, and the stages behind the group, from m to e; there is room for the array and the numbers
+-- behind it, for a tree at each of the stages, for building and for the collector
 pub record GroupReady (w : List ℕ) (n : ℕ) (q : List ℕ) (f u g h m e : ℕ) (j : List ℕ) : Type 0 where
   pub aggregates : List Pair
   pub grouping : List Pair
@@ -73,6 +70,6 @@ unfoldable pub through : List Tree → List Stage → List Pair → List Pair �
 through us ss ags gs cs = stages us (before ss) (after (each (classTree ags gs) cs))
 
 -- whatever stands there, what leaves the stretch was collected
-abbrev pub GroupPost : (w v : List ℕ) (n : ℕ) (q : List ℕ) (f u g h m e : ℕ) (j : List ℕ) → Sink → Type 0
+abbrev pub GroupPost : (w v : List ℕ) (n : ℕ) (q : List ℕ) (f u g h m e : ℕ) (j : List ℕ) → Collector → Type 0
 GroupPost w v n q f u g h m e j r = (ags gs : List Pair) (ts : List Tree) (ss : List Stage) (us : List Tree) → Pairs q f u g h ags gs → Gathered w n ts → Planned q m e j ss us
     → Shows v r (through us ss ags gs (grouped gs ts))

@@ -1,7 +1,7 @@
 //! How the stages of a run ended.
 
-/// With an array, of whose trees the collector holds so many bytes; or a tree was too large; an array that enters a group
-/// was too long; the last array is longer than an array may be.
+/// With an array, of whose trees the collector holds so many bytes; or a tree was too large; an array that enters a
+/// group was too long; the last array is longer than an array may be.
 pub enum Ended {
     Held(usize),
     Large,

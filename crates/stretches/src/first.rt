@@ -1,11 +1,11 @@
 //! The first stretch: the trees of the input, one after another.
 ghost use Rattle.stretches.specs.Stretch.{FirstReady, FirstPost};
-use format::area::copy_in;
-use format::area::field_end;
+use areas::area::copy_in;
+use areas::area::field_end;
 use format::limits::Limits;
+use stream::collector::Collector;
+use stream::collector::is_large;
 use stream::feed::feed;
-use stream::sink::Sink;
-use stream::sink::is_large;
 
 /// Each tree of the input goes through the stages before the first group, and what leaves them is collected.
 pub fn first<'a>(
@@ -15,18 +15,18 @@ pub fn first<'a>(
     p: usize,
     e: usize,
     j: &'a [u8],
-) -> Sink
+) -> Collector
     requires { ⌜ FirstReady (now input) (now w) (now q) p e (now j) ⌝ }
     ensures { λ r. ⌜ FirstPost (now (input .entry)) (now (w .exit)) (now (q .entry)) p e (now (j .entry)) r ⌝ }
 {
-    let mut s = Sink::Len(0);
+    let mut s = Collector::Len(0);
     let mut i = 3;
     while i != input.len() {
         let m = field_end(input, i);
         copy_in(w, &input[i..m], 0, Limits::TREE);
         s = feed(w, m - i, q, p, e, j, s);
         if is_large(s) {
-            return Sink::Large;
+            return Collector::Large;
         }
         i = m;
     }

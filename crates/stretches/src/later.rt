@@ -1,21 +1,21 @@
 //! The later stretches: the array that was collected enters the next group, again and again.
 ghost use Rattle.stretches.specs.Later.{LastPost, HeldReady, HeldPost, LaterReady, LaterPost};
 use crate::ended::Ended;
-use crate::group::regroup;
+use crate::group_stretch::regroup;
 use crate::next::Next;
 use crate::next::next_group;
-use format::area::move_down;
-use stream::sink::Map;
-use stream::sink::Sink;
+use areas::area::move_down;
+use stream::collector::Collector;
+use stream::collector::Map;
 
 /// How a run ends whose last stretch left this in the collector.
-fn last(s: Sink) -> Ended
+fn last(s: Collector) -> Ended
     ensures { λ r. ⌜ LastPost s r ⌝ }
 {
     match s {
-        Sink::Len(n) => Ended::Held(n),
-        Sink::Over => Ended::Full,
-        Sink::Large => Ended::Large,
+        Collector::Len(n) => Ended::Held(n),
+        Collector::Over => Ended::Full,
+        Collector::Large => Ended::Large,
     }
 }
 
@@ -31,7 +31,7 @@ fn next_stretch<'a>(
     m: usize,
     e: usize,
     j: &'a [u8],
-) -> Sink
+) -> Collector
     requires { ⌜ HeldReady (now w) n (now q) f u g h m e (now j) ⌝ }
     ensures { λ r. ⌜ HeldPost (now (w .entry)) (now (w .exit)) n (now (q .entry)) f u g h m e (now (j .entry)) r ⌝ }
 {
@@ -40,9 +40,9 @@ fn next_stretch<'a>(
     regroup(w, n, q, f, u, g, h, m, e, j)
 }
 
-/// All stretches from the next group on, of the stages that stand in q from p to e. An array that is too long is refused
-/// only here, where it enters a group: every tree before it has passed, so none of them was too large.
-pub fn later<'a>(w: &mut [u8], q: &'a [u8], p: usize, e: usize, j: &'a [u8], s: Sink) -> Ended
+/// All stretches from the next group on, of the stages that stand in q from p to e. An array that is too long is
+/// refused only here, where it enters a group: every tree before it has passed, so none of them was too large.
+pub fn later<'a>(w: &mut [u8], q: &'a [u8], p: usize, e: usize, j: &'a [u8], s: Collector) -> Ended
     requires { ⌜ LaterReady (now w) (now q) p e (now j) s ⌝ }
     ensures { λ r. ⌜ LaterPost (now (w .entry)) (now (w .exit)) (now (q .entry)) p e (now (j .entry)) s r ⌝ }
 {
@@ -51,11 +51,11 @@ pub fn later<'a>(w: &mut [u8], q: &'a [u8], p: usize, e: usize, j: &'a [u8], s: 
         return last(s);
     };
     match s {
-        Sink::Len(n) => {
+        Collector::Len(n) => {
             let r = next_stretch(w, n, q, f, u, g, h, m, e, j);
             later(w, q, m, e, j, r)
         }
-        Sink::Over => Ended::Long,
-        Sink::Large => Ended::Large,
+        Collector::Over => Ended::Long,
+        Collector::Large => Ended::Large,
     }
 }

@@ -1,8 +1,7 @@
-//! The stretches of a run, one after another: a stretch is the stages before the first group, or a group and the stages
-//! behind it up to the next. `specs/` has the contracts and their laws.
+//! The stretches of a run: the first, groups and what follows them, all of them.
 pub mod all;
 pub mod ended;
 pub mod first;
-pub mod group;
+pub mod group_stretch;
 pub mod later;
 pub mod next;

@@ -1,11 +1,11 @@
 //! The next group of a query's stages: a stretch ends before it.
 ghost use mathlib.Core.Path.{_≡_};
 ghost use Rattle.format.specs.Stand.{Holds};
-ghost use Rattle.query.specs.Places.{stagesBytes};
+ghost use Rattle.queries.specs.Places.{stagesBytes};
 ghost use Rattle.stretches.specs.Next.{groupOf, NextPost};
-use format::area::field_end;
-use query::stage::StageAt;
-use query::stage::stage_at;
+use areas::area::field_end;
+use queries::stage::StageAt;
+use queries::stage::stage_at;
 
 /// The group's aggregates, its grouping pairs, and where the stages behind it begin; or there is no group.
 pub enum Next {

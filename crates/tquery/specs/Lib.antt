@@ -1,8 +1,4 @@
 -- Definitions.
-pub mod Text
-pub mod Split
-pub mod Respond
+pub mod Interface
 -- Laws.
-pub mod TextLaws
-pub mod SplitLaws
-pub mod RespondLaws
+pub mod InterfaceLaws

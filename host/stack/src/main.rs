@@ -24,7 +24,7 @@ use std::collections::BTreeMap;
 use std::process::ExitCode;
 
 /// No call may use more, in bytes: its four arguments on the stack and its
-/// return address included.
+/// return address included. `TQUERY_STACK_MAX` of `include/tquery.h`.
 const BOUND: usize = 10_240;
 
 /// No more bytes of a record may stay behind together: one, where a register
@@ -162,13 +162,42 @@ impl Left {
 #[cfg(test)]
 mod tests {
     use super::*;
+    use std::sync::OnceLock;
+
+    /// One measurement for all tests.
+    fn measured() -> &'static Measured {
+        static MEASURED: OnceLock<Measured> = OnceLock::new();
+        MEASURED.get_or_init(|| measure(5_000, 7))
+    }
 
     #[test]
     fn calls_stay_within_the_bound_and_leave_no_two_bytes_of_records() {
-        let measured = measure(5_000, 7);
+        let measured = measured();
         assert!(measured.deepest() <= BOUND);
         assert_eq!(measured.left.runs, 0);
         assert!(measured.left.together <= TOGETHER);
+    }
+
+    /// The bytes that the header says behind a name, which is the second word of a line.
+    fn said(name: &str) -> usize {
+        let behind = |line: &str| match line.split_whitespace().collect::<Vec<_>>()[..] {
+            [_, word, number, ..] if word == name => number.replace(',', "").parse().ok(),
+            _ => None,
+        };
+        include_str!("../../../include/tquery.h").lines().find_map(behind).expect("the header says it")
+    }
+
+    #[test]
+    fn calls_use_no_more_than_the_header_says() {
+        assert_eq!(said("TQUERY_STACK_MAX"), BOUND);
+        let measured = measured();
+        for (call, used) in [
+            ("tquery_run", measured.deepest()),
+            ("tquery_check_query", measured.kinds["check_query"].deepest),
+            ("tquery_check_array", measured.kinds["check_array"].deepest),
+        ] {
+            assert!(used <= said(call), "{call}: {used} bytes used, {} said", said(call));
+        }
     }
 
     #[test]

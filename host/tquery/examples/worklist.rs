@@ -1,42 +1,68 @@
-//! A worklist, by the engine: of some jobs those whose lens stands under
-//! label 2 are chosen, and printed in one line for each of their eyes (label
-//! 3). The same as host/c/worklist.c, over areas that are set aside once.
+//! A worklist, by the engine: of some jobs those whose lens is chosen, a line
+//! for each eye, with the shelf that the lens lies on. The same as
+//! host/c/worklist.c, over areas that are set aside once.
 //!
 //! From host/: cargo run --example worklist
 
 use std::error::Error;
-use tquery::{limits, Array, Criterion, Engine, Path, Query};
+use tquery::{limits, Array, Criterion, Engine, Path, Query, Root, Tree};
 
-fn worklist() -> Result<Array, Box<dyn Error>> {
-    let query = Query::new()
-        .matching(Criterion::exists(Path::new([2])?))
+/// The input, jobs: label 1 has the number, 2 the lens, 3 the eyes.
+const JOBS: &str = r#"[
+    v{1:["4711"], 2:["progressive 1.6"], 3:["right", "left"]},
+    v{1:["4712"], 3:["left"]},
+    v{1:["4713"], 2:["bifocal 1.5"], 3:["left"]}
+]"#;
+
+/// The joined array, what is in stock: label 1 has the lens, 2 its shelf.
+const STOCK: &str = r#"[v{1:["progressive 1.6"], 2:["A3"]}]"#;
+
+/// The jobs that have a lens; a tree for each eye; under 4 what is in stock of
+/// the lens.
+fn query() -> Result<Query, Box<dyn Error>> {
+    let lens = Path::new([2])?;
+    Ok(Query::new()
+        .matching(Criterion::exists(lens.clone()))
         .unwind(Path::new([3])?)
-        .encode()?;
-    let jobs: Array = r#"[v{1:["1"], 2:[v], 3:["5", "6"]}, v{1:["2"], 3:["7"]}]"#.parse()?;
-    let (input, none) = (jobs.encode()?, Array::new().encode()?);
+        .lookup(lens, Path::new([1])?, Path::new([4])?))
+}
+
+fn run() -> Result<Array, Box<dyn Error>> {
+    let query = query()?.encode()?;
+    let jobs = JOBS.parse::<Array>()?.encode()?;
+    let stock = STOCK.parse::<Array>()?.encode()?;
 
     let (mut work, mut result) = (vec![0; limits::WORK], vec![0; limits::ARRAY]);
-    let length = Engine::new(&mut work).run(&query, &input, &none, &mut result)?;
+    let length = Engine::new(&mut work).run(&query, &jobs, &stock, &mut result)?;
     result.truncate(length);
     Ok(Array::decode(&result)?)
 }
 
-fn main() -> Result<(), Box<dyn Error>> {
-    for line in &worklist()? {
-        println!("{line}");
+/// The text at the root of the first tree along a path of labels, or a dash.
+fn text<'t>(tree: &'t Tree, path: &[u8]) -> &'t str {
+    let first = |tree: &'t Tree, label: &u8| tree.get(*label)?.first();
+    match path.iter().try_fold(tree, first).map(Tree::root) {
+        Some(Root::Text(text)) => text.as_str().unwrap_or("-"),
+        _ => "-",
     }
+}
+
+fn worklist() -> Result<String, Box<dyn Error>> {
+    let mut lines = String::from("job   lens             eye    shelf\n");
+    for tree in &run()? {
+        let [job, lens, eye, shelf] = [&[1][..], &[2], &[3], &[4, 2]].map(|path| text(tree, path));
+        lines += &format!("{job:<6}{lens:<17}{eye:<7}{shelf}\n");
+    }
+    Ok(lines)
+}
+
+fn main() -> Result<(), Box<dyn Error>> {
+    print!("{}", worklist()?);
     Ok(())
 }
 
 #[test]
-fn has_a_line_for_each_eye() -> Result<(), Box<dyn Error>> {
-    let lines: Vec<String> = worklist()?.iter().map(ToString::to_string).collect();
-    assert_eq!(
-        lines,
-        [
-            r#"v{1:["1"], 2:[v], 3:["5"]}"#,
-            r#"v{1:["1"], 2:[v], 3:["6"]}"#
-        ]
-    );
+fn is_the_worklist_of_the_example_in_c() -> Result<(), Box<dyn Error>> {
+    assert_eq!(worklist()?, include_str!("../../c/worklist.out"));
     Ok(())
 }

@@ -10,9 +10,9 @@ use Rattle.engine.proofs.finish.write_array.Statement.{statement}
 use Rattle.engine.proofs.finish.write_array.Tie as tie
 use Rattle.engine.proofs.finish.write_array.Reads as reads
 use Rattle.engine.proofs.finish.write_array.Lts as lts
-use Rattle.format.proofs.area.emit.Reads as emit-reads
-use Rattle.format.proofs.area.field_end.Reads as field-end-reads
-use Rattle.format.proofs.area.put_head.Reads as put-head-reads
+use Rattle.areas.proofs.area.emit.Reads as emit-reads
+use Rattle.areas.proofs.area.field_end.Reads as field-end-reads
+use Rattle.areas.proofs.area.put_head.Reads as put-head-reads
 
 abbrev Inv-loop : tie.InvT-loop
 Inv-loop out₀ src end at₀ out at =

@@ -2,13 +2,13 @@
 use mathlib.Core.Path.{refl}
 use native.Mathlib.Omega.{arith}
 use lib.ListN.{length}
-use Rattle.format.specs.OptionLaws.{leb-yes, leb-no}
+use Rattle.spec_trees.specs.OptionLaws.{leb-yes, leb-no}
 use borrow.Author.Needs.{needs}
 use Rattle.engine.proofs.run.refuse.Statement.{statement}
 use Rattle.engine.proofs.run.refuse.Tie as tie
 use Rattle.engine.proofs.run.refuse.Reads as reads
 use Rattle.engine.proofs.run.refuse.Lts as lts
-use Rattle.format.proofs.area.clear.Reads as clear-reads
+use Rattle.areas.proofs.area.clear.Reads as clear-reads
 
 returns : tie.Need-returns
 returns c =

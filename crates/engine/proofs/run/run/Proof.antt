@@ -1,17 +1,15 @@
 -- Made from Proof.ans by answers.py, which overwrites this file: edit Proof.ans.
-use mathlib.Core.Path.{refl, sym, _∙_, ap}
+use mathlib.Core.Path.{sym, _∙_}
 use Prim.Native.Nat.{_<_}
 use native.Mathlib.Omega.{arith}
-use lib.ListN.{length}
 use lib.Seq.{length-take-le}
-use Rattle.format.specs.ListLaws.{All-of}
+use Rattle.spec_trees.specs.ListLaws.{All-of}
+use Rattle.spec_run.specs.Run.{call}
 use Rattle.engine.specs.PerformLaws.{
-  admitted-call,
-  admitted-enough,
-  admitted-answers,
-  admitted-work,
-  refused-answers,
-  refused-work,
+  passed-forms,
+  passed-enough,
+  passed-answered,
+  refused-answered,
   lent-length,
   lent-clear,
 }
@@ -20,23 +18,24 @@ use Rattle.engine.proofs.run.run.Statement.{statement}
 use Rattle.engine.proofs.run.run.Tie as tie
 use Rattle.engine.proofs.run.run.Reads as reads
 use Rattle.engine.proofs.run.run.Lts as lts
-use Rattle.engine.proofs.admit.admit.Reads as admit-reads
+use Rattle.areas.proofs.area.clear.Reads as clear-reads
+use Rattle.engine.proofs.check.check_call.Reads as check-call-reads
 use Rattle.engine.proofs.run.perform.Reads as perform-reads
 use Rattle.engine.proofs.run.refuse.Reads as refuse-reads
-use Rattle.format.proofs.area.clear.Reads as clear-reads
 
-admit-requires : tie.Need-admit-requires
-admit-requires c κs = search needs
+check-call-requires : tie.Need-check-call-requires
+check-call-requires c κs = search needs
 
 enum-told : tie.Need-enum-told
 enum-told c = search needs
 
 slice-relend-prefix-perform : tie.Need-slice-relend-prefix-perform
 slice-relend-prefix-perform c =
-    admitted-enough ((c .before .before .before .before .before .before .before .before .args .query .now))
+    passed-enough (call ((c .before .before .before .before .before .before .before .before .args .query .now))
     ((c .before .before .before .before .before .before .before .before .args .input .now))
     ((c .before .before .before .before .before .before .before .before .args .joined .now))
-    (length ((c .before .before .before .before .before .before .before .before .args .work .now)))
+    ((c .before .before .before .before .before .before .before .before .args .work .now))
+    (c .before .before .before .before .before .before .before .before .args .result .now))
     (All-of (λ x. x < 256) 0
     ((c .before .before .before .before .before .before .before .before .args .query .now))
     (λ k l. omega (
@@ -55,16 +54,17 @@ slice-relend-prefix-perform c =
       arith,
       c .before .before .before .before .before .shared-slice-known3 .given
           k,
-    ))) (sym (c .before .before .admit .ensures) ∙ c .enum-told .given .1)
+    ))) (sym (c .before .before .check-call .ensures) ∙ c .enum-told .given .1)
 
 slice-aggregate-perform : tie.Need-slice-aggregate-perform
 slice-aggregate-perform c =
     sym (length-take-le 65536
     ((c .before .before .before .before .before .before .before .before .before .args .work .now))
-    (admitted-enough ((c .before .before .before .before .before .before .before .before .before .args .query .now))
+    (passed-enough (call ((c .before .before .before .before .before .before .before .before .before .args .query .now))
     ((c .before .before .before .before .before .before .before .before .before .args .input .now))
     ((c .before .before .before .before .before .before .before .before .before .args .joined .now))
-    (length ((c .before .before .before .before .before .before .before .before .before .args .work .now)))
+    ((c .before .before .before .before .before .before .before .before .before .args .work .now))
+    (c .before .before .before .before .before .before .before .before .before .args .result .now))
     (All-of (λ x. x < 256) 0
     ((c .before .before .before .before .before .before .before .before .before .args .query .now))
     (λ k l. omega (
@@ -83,14 +83,15 @@ slice-aggregate-perform c =
       arith,
       c .before .before .before .before .before .before .shared-slice-known3 .given
           k,
-    ))) (sym (c .before .before .before .admit .ensures) ∙ c .before .enum-told .given .1)))
+    ))) (sym (c .before .before .before .check-call .ensures) ∙ c .before .enum-told .given .1)))
 
 perform-requires : tie.Need-perform-requires
 perform-requires c κs = (
-  admitted-call ((c .before .before .before .before .before .before .before .before .before .before .args .query .now))
+  passed-forms (call ((c .before .before .before .before .before .before .before .before .before .before .args .query .now))
       ((c .before .before .before .before .before .before .before .before .before .before .args .input .now))
       ((c .before .before .before .before .before .before .before .before .before .before .args .joined .now))
-      (length ((c .before .before .before .before .before .before .before .before .before .before .args .work .now)))
+      ((c .before .before .before .before .before .before .before .before .before .before .args .work .now))
+      (c .before .before .before .before .before .before .before .before .before .before .args .result .now))
       (All-of (λ x. x < 256) 0
       ((c .before .before .before .before .before .before .before .before .before .before .args .query .now))
       (λ k l. omega (
@@ -109,13 +110,14 @@ perform-requires c κs = (
         arith,
         c .before .before .before .before .before .before .before .shared-slice-known3 .given
             k,
-      ))) (sym (c .before .before .before .before .admit .ensures) ∙
+      ))) (sym (c .before .before .before .before .check-call .ensures) ∙
       c .before .before .enum-told .given .1),
   (length-take-le 65536 ((c .before .before .before .before .before .before .before .before .before .before .args .work .now))
-      (admitted-enough ((c .before .before .before .before .before .before .before .before .before .before .args .query .now))
+      (passed-enough (call ((c .before .before .before .before .before .before .before .before .before .before .args .query .now))
       ((c .before .before .before .before .before .before .before .before .before .before .args .input .now))
       ((c .before .before .before .before .before .before .before .before .before .before .args .joined .now))
-      (length ((c .before .before .before .before .before .before .before .before .before .before .args .work .now)))
+      ((c .before .before .before .before .before .before .before .before .before .before .args .work .now))
+      (c .before .before .before .before .before .before .before .before .before .before .args .result .now))
       (All-of (λ x. x < 256) 0
       ((c .before .before .before .before .before .before .before .before .before .before .args .query .now))
       (λ k l. omega (
@@ -134,15 +136,15 @@ perform-requires c κs = (
         arith,
         c .before .before .before .before .before .before .before .shared-slice-known3 .given
             k,
-      ))) (sym (c .before .before .before .before .admit .ensures) ∙
+      ))) (sym (c .before .before .before .before .check-call .ensures) ∙
       c .before .before .enum-told .given .1))),
 )
 
 clear-requires : tie.Need-clear-requires
 clear-requires c κs = search needs
 
-enum-known-admission : tie.Need-enum-known-admission
-enum-known-admission c = search needs
+enum-known-check : tie.Need-enum-known-check
+enum-known-check c = search needs
 
 refuse-requires : tie.Need-refuse-requires
 refuse-requires c κs = search needs
@@ -152,10 +154,11 @@ same-length c =
     c .before .before .clear .kept .0 ∙ lent-length 65536
     ((c .before .before .before .before .before .before .before .before .before .before .before .before .before .before .before .before .before .before .before .args .work .now))
     (c .before .before .before .before .before .before .before .before .perform .last .1 .1 .1 .0)
-    (admitted-enough ((c .before .before .before .before .before .before .before .before .before .before .before .before .before .before .before .before .before .before .before .args .query .now))
+    (passed-enough (call ((c .before .before .before .before .before .before .before .before .before .before .before .before .before .before .before .before .before .before .before .args .query .now))
     ((c .before .before .before .before .before .before .before .before .before .before .before .before .before .before .before .before .before .before .before .args .input .now))
     ((c .before .before .before .before .before .before .before .before .before .before .before .before .before .before .before .before .before .before .before .args .joined .now))
-    (length ((c .before .before .before .before .before .before .before .before .before .before .before .before .before .before .before .before .before .before .before .args .work .now)))
+    ((c .before .before .before .before .before .before .before .before .before .before .before .before .before .before .before .before .before .before .before .args .work .now))
+    (c .before .before .before .before .before .before .before .before .before .before .before .before .before .before .before .before .before .before .before .args .result .now))
     (All-of (λ x. x < 256) 0
     ((c .before .before .before .before .before .before .before .before .before .before .before .before .before .before .before .before .before .before .before .args .query .now))
     (λ k l. omega (
@@ -174,7 +177,7 @@ same-length c =
       arith,
       c .before .before .before .before .before .before .before .before .before .before .before .before .before .before .before .before .shared-slice-known3 .given
           k,
-    ))) (sym (c .before .before .before .before .before .before .before .before .before .before .before .before .before .admit .ensures)
+    ))) (sym (c .before .before .before .before .before .before .before .before .before .before .before .before .before .check-call .ensures)
     ∙ c .before .before .before .before .before .before .before .before .before .before .before .enum-told .given .1))
     (c .before .before .before .before .before .before .before .before .perform .kept .1 .1 .1 .0)
 
@@ -182,124 +185,88 @@ same-length-2 : tie.Need-same-length-2
 same-length-2 c = search needs
 
 returns : tie.Need-returns
-returns c = (
-  admitted-answers ((c .before .before .before .before .before .before .before .before .before .before .before .before .before .before .before .before .before .before .before .args .query .now))
-      ((c .before .before .before .before .before .before .before .before .before .before .before .before .before .before .before .before .before .before .before .args .input .now))
-      ((c .before .before .before .before .before .before .before .before .before .before .before .before .before .before .before .before .before .before .before .args .joined .now))
-      (length ((c .before .before .before .before .before .before .before .before .before .before .before .before .before .before .before .before .before .before .before .args .work .now)))
-      (All-of (λ x. x < 256) 0
-      ((c .before .before .before .before .before .before .before .before .before .before .before .before .before .before .before .before .before .before .before .args .query .now))
-      (λ k l. omega (
-        arith,
-        c .before .before .before .before .before .before .before .before .before .before .before .before .before .before .before .before .before .before .shared-slice-known .given
-            k,
-      ))) (All-of (λ x. x < 256) 0
-      ((c .before .before .before .before .before .before .before .before .before .before .before .before .before .before .before .before .before .before .before .args .input .now))
-      (λ k l. omega (
-        arith,
-        c .before .before .before .before .before .before .before .before .before .before .before .before .before .before .before .before .before .shared-slice-known2 .given
-            k,
-      ))) (All-of (λ x. x < 256) 0
-      ((c .before .before .before .before .before .before .before .before .before .before .before .before .before .before .before .before .before .before .before .args .joined .now))
-      (λ k l. omega (
-        arith,
-        c .before .before .before .before .before .before .before .before .before .before .before .before .before .before .before .before .shared-slice-known3 .given
-            k,
-      ))) (sym (c .before .before .before .before .before .before .before .before .before .before .before .before .before .admit .ensures)
-      ∙ c .before .before .before .before .before .before .before .before .before .before .before .enum-told .given .1)
-      (c .before .before .before .before .before .before .before .before .before .before .before .before .before .before .before .before .before .before .before .args .result .now)
-      (c .before .before .before .before .before .before .before .before .perform .ensures),
-  admitted-work ((c .before .before .before .before .before .before .before .before .before .before .before .before .before .before .before .before .before .before .before .args .query .now))
-      ((c .before .before .before .before .before .before .before .before .before .before .before .before .before .before .before .before .before .before .before .args .input .now))
-      ((c .before .before .before .before .before .before .before .before .before .before .before .before .before .before .before .before .before .before .before .args .joined .now))
-      (length ((c .before .before .before .before .before .before .before .before .before .before .before .before .before .before .before .before .before .before .before .args .work .now)))
-      (All-of (λ x. x < 256) 0
-      ((c .before .before .before .before .before .before .before .before .before .before .before .before .before .before .before .before .before .before .before .args .query .now))
-      (λ k l. omega (
-        arith,
-        c .before .before .before .before .before .before .before .before .before .before .before .before .before .before .before .before .before .before .shared-slice-known .given
-            k,
-      ))) (All-of (λ x. x < 256) 0
-      ((c .before .before .before .before .before .before .before .before .before .before .before .before .before .before .before .before .before .before .before .args .input .now))
-      (λ k l. omega (
-        arith,
-        c .before .before .before .before .before .before .before .before .before .before .before .before .before .before .before .before .before .shared-slice-known2 .given
-            k,
-      ))) (All-of (λ x. x < 256) 0
-      ((c .before .before .before .before .before .before .before .before .before .before .before .before .before .before .before .before .before .before .before .args .joined .now))
-      (λ k l. omega (
-        arith,
-        c .before .before .before .before .before .before .before .before .before .before .before .before .before .before .before .before .shared-slice-known3 .given
-            k,
-      ))) (sym (c .before .before .before .before .before .before .before .before .before .before .before .before .before .admit .ensures)
-      ∙ c .before .before .before .before .before .before .before .before .before .before .before .enum-told .given .1)
-      (length (c .before .before .before .before .before .before .before .before .before .before .before .before .before .before .before .before .before .before .before .args .result .now))
-      ((c .before .before .before .before .before .before .before .before .before .before .before .before .before .before .before .before .before .before .before .args .work .now))
-      (lent-clear 65536 ((c .before .before .before .before .before .before .before .before .before .before .before .before .before .before .before .before .before .before .before .args .work .now))
-      (c .before .before .before .before .before .before .before .before .perform .last .1 .1 .1 .0)
-      (admitted-enough ((c .before .before .before .before .before .before .before .before .before .before .before .before .before .before .before .before .before .before .before .args .query .now))
-      ((c .before .before .before .before .before .before .before .before .before .before .before .before .before .before .before .before .before .before .before .args .input .now))
-      ((c .before .before .before .before .before .before .before .before .before .before .before .before .before .before .before .before .before .before .before .args .joined .now))
-      (length ((c .before .before .before .before .before .before .before .before .before .before .before .before .before .before .before .before .before .before .before .args .work .now)))
-      (All-of (λ x. x < 256) 0
-      ((c .before .before .before .before .before .before .before .before .before .before .before .before .before .before .before .before .before .before .before .args .query .now))
-      (λ k l. omega (
-        arith,
-        c .before .before .before .before .before .before .before .before .before .before .before .before .before .before .before .before .before .before .shared-slice-known .given
-            k,
-      ))) (All-of (λ x. x < 256) 0
-      ((c .before .before .before .before .before .before .before .before .before .before .before .before .before .before .before .before .before .before .before .args .input .now))
-      (λ k l. omega (
-        arith,
-        c .before .before .before .before .before .before .before .before .before .before .before .before .before .before .before .before .before .shared-slice-known2 .given
-            k,
-      ))) (All-of (λ x. x < 256) 0
-      ((c .before .before .before .before .before .before .before .before .before .before .before .before .before .before .before .before .before .before .before .args .joined .now))
-      (λ k l. omega (
-        arith,
-        c .before .before .before .before .before .before .before .before .before .before .before .before .before .before .before .before .shared-slice-known3 .given
-            k,
-      ))) (sym (c .before .before .before .before .before .before .before .before .before .before .before .before .before .admit .ensures)
-      ∙ c .before .before .before .before .before .before .before .before .before .before .before .enum-told .given .1))
-      (c .before .before .before .before .before .before .before .before .perform .kept .1 .1 .1 .0)
-      (c .before .before .clear .ensures)),
-)
+returns c =
+    passed-answered (call ((c .before .before .before .before .before .before .before .before .before .before .before .before .before .before .before .before .before .before .before .args .query .now))
+    ((c .before .before .before .before .before .before .before .before .before .before .before .before .before .before .before .before .before .before .before .args .input .now))
+    ((c .before .before .before .before .before .before .before .before .before .before .before .before .before .before .before .before .before .before .before .args .joined .now))
+    ((c .before .before .before .before .before .before .before .before .before .before .before .before .before .before .before .before .before .before .before .args .work .now))
+    (c .before .before .before .before .before .before .before .before .before .before .before .before .before .before .before .before .before .before .before .args .result .now))
+    (All-of (λ x. x < 256) 0
+    ((c .before .before .before .before .before .before .before .before .before .before .before .before .before .before .before .before .before .before .before .args .query .now))
+    (λ k l. omega (
+      arith,
+      c .before .before .before .before .before .before .before .before .before .before .before .before .before .before .before .before .before .before .shared-slice-known .given
+          k,
+    ))) (All-of (λ x. x < 256) 0
+    ((c .before .before .before .before .before .before .before .before .before .before .before .before .before .before .before .before .before .before .before .args .input .now))
+    (λ k l. omega (
+      arith,
+      c .before .before .before .before .before .before .before .before .before .before .before .before .before .before .before .before .before .shared-slice-known2 .given
+          k,
+    ))) (All-of (λ x. x < 256) 0
+    ((c .before .before .before .before .before .before .before .before .before .before .before .before .before .before .before .before .before .before .before .args .joined .now))
+    (λ k l. omega (
+      arith,
+      c .before .before .before .before .before .before .before .before .before .before .before .before .before .before .before .before .shared-slice-known3 .given
+          k,
+    ))) (sym (c .before .before .before .before .before .before .before .before .before .before .before .before .before .check-call .ensures)
+    ∙ c .before .before .before .before .before .before .before .before .before .before .before .enum-told .given .1)
+    (c .before .before .before .before .before .before .before .before .perform .ensures)
+    (lent-clear 65536 ((c .before .before .before .before .before .before .before .before .before .before .before .before .before .before .before .before .before .before .before .args .work .now))
+    (c .before .before .before .before .before .before .before .before .perform .last .1 .1 .1 .0)
+    (passed-enough (call ((c .before .before .before .before .before .before .before .before .before .before .before .before .before .before .before .before .before .before .before .args .query .now))
+    ((c .before .before .before .before .before .before .before .before .before .before .before .before .before .before .before .before .before .before .before .args .input .now))
+    ((c .before .before .before .before .before .before .before .before .before .before .before .before .before .before .before .before .before .before .before .args .joined .now))
+    ((c .before .before .before .before .before .before .before .before .before .before .before .before .before .before .before .before .before .before .before .args .work .now))
+    (c .before .before .before .before .before .before .before .before .before .before .before .before .before .before .before .before .before .before .before .args .result .now))
+    (All-of (λ x. x < 256) 0
+    ((c .before .before .before .before .before .before .before .before .before .before .before .before .before .before .before .before .before .before .before .args .query .now))
+    (λ k l. omega (
+      arith,
+      c .before .before .before .before .before .before .before .before .before .before .before .before .before .before .before .before .before .before .shared-slice-known .given
+          k,
+    ))) (All-of (λ x. x < 256) 0
+    ((c .before .before .before .before .before .before .before .before .before .before .before .before .before .before .before .before .before .before .before .args .input .now))
+    (λ k l. omega (
+      arith,
+      c .before .before .before .before .before .before .before .before .before .before .before .before .before .before .before .before .before .shared-slice-known2 .given
+          k,
+    ))) (All-of (λ x. x < 256) 0
+    ((c .before .before .before .before .before .before .before .before .before .before .before .before .before .before .before .before .before .before .before .args .joined .now))
+    (λ k l. omega (
+      arith,
+      c .before .before .before .before .before .before .before .before .before .before .before .before .before .before .before .before .shared-slice-known3 .given
+          k,
+    ))) (sym (c .before .before .before .before .before .before .before .before .before .before .before .before .before .check-call .ensures)
+    ∙ c .before .before .before .before .before .before .before .before .before .before .before .enum-told .given .1))
+    (c .before .before .before .before .before .before .before .before .perform .kept .1 .1 .1 .0)
+    (c .before .before .clear .ensures))
 
 same-length-3 : tie.Need-same-length-3
 same-length-3 c = search needs
 
 returns-2 : tie.Need-returns-2
-returns-2 c = (
-  refused-answers ((c .before .before .before .before .before .before .before .before .before .before .before .before .before .args .query .now))
-      ((c .before .before .before .before .before .before .before .before .before .before .before .before .before .args .input .now))
-      ((c .before .before .before .before .before .before .before .before .before .before .before .before .before .args .joined .now))
-      ((c .before .before .before .before .before .before .before .before .before .before .before .before .before .args .work .now))
-      (sym (c .before .before .before .before .before .before .before .admit .ensures) ∙
-      c .before .before .before .before .before .admission .given .1)
-      (c .before .before .before .before .before .before .before .before .before .before .before .before .before .args .result .now)
-      (c .before .before .refuse .ensures .0),
-  refused-work
-      ((c .before .before .before .before .before .before .before .before .before .before .before .before .before .args .query .now))
-      ((c .before .before .before .before .before .before .before .before .before .before .before .before .before .args .input .now))
-      ((c .before .before .before .before .before .before .before .before .before .before .before .before .before .args .joined .now))
-      ((c .before .before .before .before .before .before .before .before .before .before .before .before .before .args .work .now))
-      (sym (c .before .before .before .before .before .before .before .admit .ensures) ∙
-      c .before .before .before .before .before .admission .given .1)
-      (length (c .before .before .before .before .before .before .before .before .before .before .before .before .before .args .result .now))
-      (c .before .before .refuse .ensures .1),
-)
+returns-2 c =
+    refused-answered (call ((c .before .before .before .before .before .before .before .before .before .before .before .before .before .args .query .now))
+    ((c .before .before .before .before .before .before .before .before .before .before .before .before .before .args .input .now))
+    ((c .before .before .before .before .before .before .before .before .before .before .before .before .before .args .joined .now))
+    ((c .before .before .before .before .before .before .before .before .before .before .before .before .before .args .work .now))
+    (c .before .before .before .before .before .before .before .before .before .before .before .before .before .args .result .now))
+    (sym (c .before .before .before .before .before .before .before .check-call .ensures) ∙
+    c .before .before .before .before .before .check .given .1)
+    (c .before .before .refuse .ensures .0) (c .before .before .refuse .ensures .1)
 
 pub run-spec : {M : Type 1} → statement M
 run-spec =
     tie.close
     (tie.spec
-    admit-requires
+    check-call-requires
     enum-told
     slice-relend-prefix-perform
     slice-aggregate-perform
     perform-requires
     clear-requires
-    enum-known-admission
+    enum-known-check
     refuse-requires
     same-length
     same-length-2

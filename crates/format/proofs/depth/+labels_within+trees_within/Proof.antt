@@ -6,7 +6,7 @@ use mathlib.Core.Bool.{Bool}
 use Prim.Native.Nat.{_+_, _*_, _-_}
 use lib.Dec.{leb}
 use borrow.Author.Tests.{not-true, not-false}
-use Rattle.format.specs.Size.{depthA, depthL}
+use Rattle.spec_trees.specs.Size.{depthA, depthL}
 use Rattle.format.specs.Stand.{treesBytes, labelsBytes, Holds, Says}
 use Rattle.format.specs.StandLaws.{
   labels-places,
@@ -37,7 +37,7 @@ use Rattle.format.proofs.depth.+labels_within+trees_within.Lts-labels_w
 use Rattle.format.proofs.depth.trees_within.Reads as trees-within
 use Rattle.format.proofs.depth.trees_within.Kinds as trees-within-kinds
 use Rattle.format.proofs.depth.+labels_within+trees_within.Lts-trees_within as trees-within-lts
-use Rattle.format.proofs.area.field_end.Reads as field-end-reads
+use Rattle.areas.proofs.area.field_end.Reads as field-end-reads
 use Rattle.format.proofs.depth.+labels_within+trees_within.{statement}
 use Rattle.format.proofs.depth.+labels_within+trees_within.Tie.{close}
 

@@ -10,7 +10,7 @@ use Rattle.format.proofs.labels.find.Statement.{statement}
 use Rattle.format.proofs.labels.find.Tie as tie
 use Rattle.format.proofs.labels.find.Reads as reads
 use Rattle.format.proofs.labels.find.Lts as lts
-use Rattle.format.proofs.area.field_end.Reads as field-end-reads
+use Rattle.areas.proofs.area.field_end.Reads as field-end-reads
 use Rattle.format.proofs.labels.label_at.Reads as label-at-reads
 
 abbrev Inv-loop : tie.InvT-loop

@@ -8,7 +8,7 @@ use Rattle.format.proofs.labels.finish_label.Statement.{statement}
 use Rattle.format.proofs.labels.finish_label.Tie as tie
 use Rattle.format.proofs.labels.finish_label.Reads as reads
 use Rattle.format.proofs.labels.finish_label.Lts as lts
-use Rattle.format.proofs.area.put_head.Reads as put-head-reads
+use Rattle.areas.proofs.area.put_head.Reads as put-head-reads
 
 enum-known-r : tie.Need-enum-known-r
 enum-known-r c = search needs

@@ -3,12 +3,12 @@ use native.Mathlib.Omega.{arith}
 use borrow.Author.Needs.{needs}
 use mathlib.Core.Path.{refl, sym, _∙_}
 use Prim.Native.Nat.{_*_, _+_, _-_, _≤_}
-use Rattle.format.specs.Limits.{nestMax}
+use Rattle.spec_trees.specs.Limits.{nestMax}
 use Rattle.format.specs.StandLaws.{tree-places, holds-labels}
-use Rattle.query.specs.Query.{match, unwind, project}
-use Rattle.query.specs.Rules.{OkP, NestedC}
-use Rattle.query.specs.Places.{pathBytes, criterionBytes, itemsBytes}
-use Rattle.writing.specs.WriterLaws.{along-order, along-inside}
+use Rattle.spec_queries.specs.Query.{match, unwind, project}
+use Rattle.spec_queries.specs.Rules.{OkP, NestedC}
+use Rattle.queries.specs.Places.{pathBytes, criterionBytes, itemsBytes}
+use Rattle.place.specs.WriterLaws.{along-order, along-inside}
 use Rattle.stream.specs.Feed.{OkItems}
 use Rattle.stream.specs.FeedLaws as law
 use Rattle.stream.specs.Unwinding.{Unwinding, LeftFrom, LeftUnder}
@@ -40,19 +40,19 @@ use Rattle.stream.proofs.feed.+feed+feed_each+feed_elements+feed_looked
 use Rattle.stream.proofs.feed.feed_unwound.Reads as feed-unwound
 use Rattle.stream.proofs.feed.feed_unwound.Kinds as feed-unwound-kinds
 use Rattle.stream.proofs.feed.+feed+feed_each+feed_elements+feed_looked+feed_matched+feed_outcomes+feed_projected+feed_unwound.Lts-feed_unwound as feed-unwound-lts
-use Rattle.format.proofs.area.field_end.Reads as field-end-reads
-use Rattle.making.proofs.lookup.lookup.Reads as lookup-reads
-use Rattle.making.proofs.project.project.Reads as project-reads
-use Rattle.query.proofs.path.step_at.Reads as step-at-reads
-use Rattle.query.proofs.path.steps.Reads as steps-reads
-use Rattle.query.proofs.stage.stage_at.Reads as stage-at-reads
-use Rattle.reading.proofs.criteria.holds.Reads as holds-reads
-use Rattle.stream.proofs.sink.collect.Reads as collect-reads
-use Rattle.stream.proofs.sink.is_large.Reads as is-large-reads
-use Rattle.writing.proofs.unwind.find_entry.Reads as find-entry-reads
-use Rattle.writing.proofs.unwind.outcomes.Reads as outcomes-reads
-use Rattle.writing.proofs.unwind.put_element.Reads as put-element-reads
-use Rattle.writing.proofs.unwind.put_outcome.Reads as put-outcome-reads
+use Rattle.areas.proofs.area.field_end.Reads as field-end-reads
+use Rattle.lookup.proofs.lookup.lookup.Reads as lookup-reads
+use Rattle.project.proofs.project.project.Reads as project-reads
+use Rattle.queries.proofs.path.step_at.Reads as step-at-reads
+use Rattle.queries.proofs.path.steps.Reads as steps-reads
+use Rattle.queries.proofs.stage.stage_at.Reads as stage-at-reads
+use Rattle.criteria.proofs.criteria.holds.Reads as holds-reads
+use Rattle.stream.proofs.collector.collect.Reads as collect-reads
+use Rattle.stream.proofs.collector.is_large.Reads as is-large-reads
+use Rattle.unwind.proofs.unwind.find_entry.Reads as find-entry-reads
+use Rattle.unwind.proofs.unwind.outcomes.Reads as outcomes-reads
+use Rattle.unwind.proofs.unwind.put_element.Reads as put-element-reads
+use Rattle.unwind.proofs.unwind.put_outcome.Reads as put-outcome-reads
 use Rattle.stream.proofs.feed.+feed+feed_each+feed_elements+feed_looked+feed_matched+feed_outcomes+feed_projected+feed_unwound.{
   statement,
 }
@@ -711,11 +711,11 @@ feed-returns-6 t c =
     (c .before .before .feed-looked .ensures)
 
 abbrev feed-each-Inv-loop : feed-each-lts.InvT-loop
-feed-each-Inv-loop t₀ te q c ce k f u m e j sink₀ x₀ t sink x =
-    Unwinding (LeftUnder k t₀ x u) t₀ te q c ce m e j sink₀ t sink
+feed-each-Inv-loop t₀ te q c ce k f u m e j collector₀ x₀ t collector x =
+    Unwinding (LeftUnder k t₀ x u) t₀ te q c ce m e j collector₀ t collector
 
 abbrev feed-each-μ-loop : feed-each-lts.MeasureT-loop
-feed-each-μ-loop t₀ te q c ce k f u m e j sink₀ x₀ t sink x = u - x
+feed-each-μ-loop t₀ te q c ce k f u m e j collector₀ x₀ t collector x = u - x
 
 feed-each-loop-holds : (t : ℕ) → feed-each-lts.Need-loop-holds (
   field-end-reads.Asked,
@@ -1544,11 +1544,11 @@ feed-matched-returns-2 t c =
     (c .before .holds .ensures) (c .if1 .left)
 
 abbrev feed-outcomes-Inv-loop : feed-outcomes-lts.InvT-loop
-feed-outcomes-Inv-loop t₀ te q c ce m e j n sink₀ i₀ t sink i =
-    Unwinding (LeftFrom i) t₀ te q c ce m e j sink₀ t sink
+feed-outcomes-Inv-loop t₀ te q c ce m e j n collector₀ i₀ t collector i =
+    Unwinding (LeftFrom i) t₀ te q c ce m e j collector₀ t collector
 
 abbrev feed-outcomes-μ-loop : feed-outcomes-lts.MeasureT-loop
-feed-outcomes-μ-loop t₀ te q c ce m e j n sink₀ i₀ t sink i = n - i
+feed-outcomes-μ-loop t₀ te q c ce m e j n collector₀ i₀ t collector i = n - i
 
 feed-outcomes-outcomes-requires : (t : ℕ) → feed-outcomes-lts.Need-outcomes-requires (
   outcomes-reads.Asked,

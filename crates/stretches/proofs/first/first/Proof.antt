@@ -18,10 +18,10 @@ use Rattle.stretches.proofs.first.first.Statement.{statement}
 use Rattle.stretches.proofs.first.first.Tie as tie
 use Rattle.stretches.proofs.first.first.Reads as reads
 use Rattle.stretches.proofs.first.first.Lts as lts
-use Rattle.format.proofs.area.copy_in.Reads as copy-in-reads
-use Rattle.format.proofs.area.field_end.Reads as field-end-reads
+use Rattle.areas.proofs.area.copy_in.Reads as copy-in-reads
+use Rattle.areas.proofs.area.field_end.Reads as field-end-reads
 use Rattle.stream.proofs.feed.feed.Reads as feed-reads
-use Rattle.stream.proofs.sink.is_large.Reads as is-large-reads
+use Rattle.stream.proofs.collector.is_large.Reads as is-large-reads
 
 abbrev Inv-loop : tie.InvT-loop
 Inv-loop input w₀ q p e j s₀ i₀ w s i = FirstGoing input w₀ q p e j w s i

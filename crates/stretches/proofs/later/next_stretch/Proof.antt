@@ -7,8 +7,8 @@ use Rattle.stretches.proofs.later.next_stretch.Statement.{statement}
 use Rattle.stretches.proofs.later.next_stretch.Tie as tie
 use Rattle.stretches.proofs.later.next_stretch.Reads as reads
 use Rattle.stretches.proofs.later.next_stretch.Lts as lts
-use Rattle.format.proofs.area.move_down.Reads as move-down-reads
-use Rattle.stretches.proofs.group.regroup.Reads as regroup-reads
+use Rattle.areas.proofs.area.move_down.Reads as move-down-reads
+use Rattle.stretches.proofs.group_stretch.regroup.Reads as regroup-reads
 
 sub-from : tie.Need-sub-from
 sub-from c = search needs

@@ -4,7 +4,7 @@ use mathlib.Core.Path.{_≡_, refl, _∙_, ap}
 use Prim.Native.Nat.{_≤_, _-_}
 use native.Mathlib.Omega.{arith}
 use Rattle.format.specs.Stand.{Holds}
-use Rattle.query.specs.Places.{stagesBytes}
+use Rattle.queries.specs.Places.{stagesBytes}
 use Rattle.stretches.specs.declared.next.Next.{Next}
 use Rattle.stretches.specs.Next.{NextPost}
 use Rattle.stretches.specs.NextLaws.{
@@ -19,8 +19,8 @@ use Rattle.stretches.proofs.next.next_group.Statement.{statement}
 use Rattle.stretches.proofs.next.next_group.Tie as tie
 use Rattle.stretches.proofs.next.next_group.Reads as reads
 use Rattle.stretches.proofs.next.next_group.Lts as lts
-use Rattle.format.proofs.area.field_end.Reads as field-end-reads
-use Rattle.query.proofs.stage.stage_at.Reads as stage-at-reads
+use Rattle.areas.proofs.area.field_end.Reads as field-end-reads
+use Rattle.queries.proofs.stage.stage_at.Reads as stage-at-reads
 use Rattle.stretches.proofs.next.group_of.Reads as group-of-reads
 
 abbrev Inv-loop : tie.InvT-loop

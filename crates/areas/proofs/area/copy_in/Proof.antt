@@ -1,0 +1,96 @@
+-- Made from Proof.ans by answers.py, which overwrites this file: edit Proof.ans.
+use native.Mathlib.Omega.{arith}
+use borrow.Author.Needs.{needs}
+use mathlib.Core.Path.{_≡_, refl, ap, _∙_}
+use Prim.Native.Nat.{_+_, _-_, _≤_}
+use lib.ListN.{length, getD, set, length-set}
+use lib.Seq.{paste, paste-zero}
+use Rattle.areas.specs.AreaLaws.{no-room, paste-more, pasted}
+use Rattle.areas.proofs.area.copy_in.Statement.{statement}
+use Rattle.areas.proofs.area.copy_in.Tie as tie
+use Rattle.areas.proofs.area.copy_in.Reads as reads
+use Rattle.areas.proofs.area.copy_in.Lts as lts
+
+abbrev Inv-loop : tie.InvT-loop
+Inv-loop w₀ src d stop j₀ w j = (j ≤ length src) × (length w ≡ length w₀) × (w ≡ paste w₀ d src j)
+
+abbrev μ-loop : tie.MeasureT-loop
+μ-loop w₀ src d stop j₀ w j = length src - j
+
+sub-if1 : tie.Need-sub-if1 Inv-loop μ-loop
+sub-if1 c = search needs
+
+returns : tie.Need-returns Inv-loop μ-loop
+returns c =
+    no-room (c .before .args .w .now) (c .before .args .d) (c .before .args .stop)
+    (c .before .args .src .now) (omega arith)
+
+loop-holds : tie.Need-loop-holds Inv-loop μ-loop
+loop-holds c = (
+  omega arith,
+  refl,
+  paste-zero (c .before .args .w .now) (c .before .args .d)
+      (c .before .args .src .now),
+)
+
+shared-slice-read-w : tie.Need-shared-slice-read-w Inv-loop μ-loop
+shared-slice-read-w c = search needs
+
+add-w : tie.Need-add-w Inv-loop μ-loop
+add-w c = search needs
+
+slice-write-w : tie.Need-slice-write-w Inv-loop μ-loop
+slice-write-w c = search needs
+
+add-j : tie.Need-add-j Inv-loop μ-loop
+add-j c = search needs
+
+loop-less : tie.Need-loop-less Inv-loop μ-loop
+loop-less c = search needs
+
+loop-again : tie.Need-loop-again Inv-loop μ-loop
+loop-again c = (
+  omega arith,
+  simp length-set (c .before .before .loop .inv .1),
+  ap (λ x. set x (c .before .before .before .before .args .d + c .before .before .loop .j)
+      (getD (c .before .before .before .before .args .src .now) (c .before .before .loop .j) 0))
+      (c .before .before .loop .inv .2) ∙ paste-more
+      (c .before .before .before .before .args .w .now)
+      (c .before .before .before .before .args .src .now)
+      (c .before .before .before .before .args .d) (c .before .before .loop .j) (omega arith)
+      (omega arith),
+)
+
+add-t7 : tie.Need-add-t7 Inv-loop μ-loop
+add-t7 c = search needs
+
+same-length : tie.Need-same-length Inv-loop μ-loop
+same-length c = search needs
+
+returns-2 : tie.Need-returns-2 Inv-loop μ-loop
+returns-2 c =
+    let q : c .before .loop .j ≡ length (c .before .before .before .args .src .now) = omega arith in
+    pasted (c .before .before .before .args .w .now) (c .before .before .before .args .src .now)
+    (c .before .before .before .args .d) (c .before .before .before .args .stop) (omega arith)
+    (omega arith) refl (c .before .loop .inv .2 ∙ ap
+    (λ m. paste (c .before .before .before .args .w .now) (c .before .before .before .args .d)
+    (c .before .before .before .args .src .now) m) q)
+
+pub copy-in-spec : {M : Type 1} → statement M
+copy-in-spec =
+    tie.close
+    (tie.spec
+    Inv-loop
+    μ-loop
+    sub-if1
+    returns
+    loop-holds
+    shared-slice-read-w
+    add-w
+    slice-write-w
+    add-j
+    loop-less
+    loop-again
+    add-t7
+    same-length
+    returns-2)

@@ -1,0 +1,39 @@
+-- Made from Proof.ans by answers.py, which overwrites this file: edit Proof.ans.
+use native.Mathlib.Omega.{arith}
+use mathlib.Core.Logic.{inr}
+use Prim.Native.Nat.{_-_}
+use lib.ListN.{length, take, drop}
+use Rattle.areas.specs.AreaLaws.{length-source, pasted}
+use borrow.Author.Needs.{needs}
+use Rattle.areas.proofs.area.move_down.Statement.{statement}
+use Rattle.areas.proofs.area.move_down.Tie as tie
+use Rattle.areas.proofs.area.move_down.Reads as reads
+use Rattle.areas.proofs.area.move_down.Lts as lts
+use Rattle.areas.proofs.area.carry.Reads as carry-reads
+
+sub-carry : tie.Need-sub-carry
+sub-carry c = search needs
+
+carry-requires : tie.Need-carry-requires
+carry-requires c κs = (omega arith, omega arith, inr (omega arith))
+
+same-length : tie.Need-same-length
+same-length c = search needs
+
+returns : tie.Need-returns
+returns c =
+    pasted (c .before .before .before .before .before .args .w .now)
+    (take (c .before .before .before .before .before .args .e -
+    c .before .before .before .before .before .args .i)
+    (drop (c .before .before .before .before .before .args .i)
+    (c .before .before .before .before .before .args .w .now)))
+    (c .before .before .before .before .before .args .d)
+    (length (c .before .before .before .before .before .args .w .now)) (omega arith) (omega arith)
+    (length-source (c .before .before .before .before .before .args .w .now)
+    (c .before .before .before .before .before .args .i)
+    (c .before .before .before .before .before .args .e -
+    c .before .before .before .before .before .args .i) (omega arith))
+    (c .before .before .carry .ensures)
+
+pub move-down-spec : {M : Type 1} → statement M
+move-down-spec = tie.close (tie.spec sub-carry carry-requires same-length returns)

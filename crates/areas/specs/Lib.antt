@@ -1,0 +1,6 @@
+-- Definitions.
+pub mod Area
+pub mod Compare
+-- Laws.
+pub mod AreaLaws
+pub mod CompareLaws

@@ -1,0 +1,8 @@
+-- Definitions.
+pub mod Build
+pub mod Behind
+pub mod Made
+-- Laws.
+pub mod BuildLaws
+pub mod BehindLaws
+pub mod MadeLaws

@@ -1,0 +1,46 @@
+-- Made from Proof.ans by answers.py, which overwrites this file: edit Proof.ans.
+use mathlib.Core.Path.{sym}
+use lib.Seq.{length-take-le}
+use borrow.Author.Needs.{needs}
+use Rattle.cases.proofs.compare.compare.Statement.{statement}
+use Rattle.cases.proofs.compare.compare.Tie as tie
+use Rattle.cases.proofs.compare.compare.Reads as reads
+use Rattle.cases.proofs.compare.compare.Lts as lts
+use Rattle.cases.proofs.compare.compare_in.Reads as compare-in-reads
+
+returns : tie.Need-returns
+returns c = search needs
+
+returns-2 : tie.Need-returns-2
+returns-2 c = search needs
+
+array-borrow-prefix-work : tie.Need-array-borrow-prefix-work
+array-borrow-prefix-work c = search needs
+
+slice-aggregate-compare-in : tie.Need-slice-aggregate-compare-in
+slice-aggregate-compare-in c = sym (length-take-le _ _ (c .before .before .if1 .left))
+
+array-borrow-prefix-result : tie.Need-array-borrow-prefix-result
+array-borrow-prefix-result c = search needs
+
+slice-aggregate-compare-in-2 : tie.Need-slice-aggregate-compare-in-2
+slice-aggregate-compare-in-2 c = sym (length-take-le _ _ (c .before .before .if2 .left))
+
+compare-in-requires : tie.Need-compare-in-requires
+compare-in-requires c κs = search needs
+
+returns-3 : tie.Need-returns-3
+returns-3 c = search needs
+
+pub compare-spec : {M : Type 1} → statement M
+compare-spec =
+    tie.close
+    (tie.spec
+    returns
+    returns-2
+    array-borrow-prefix-work
+    slice-aggregate-compare-in
+    array-borrow-prefix-result
+    slice-aggregate-compare-in-2
+    compare-in-requires
+    returns-3)

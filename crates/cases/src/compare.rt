@@ -1,0 +1,148 @@
+//! The call of a case, and whether all that is seen of it is as expected. The work area is full of 170 before a run, and
+//! the result area full of 187, so that a byte that changed is seen.
+use crate::parts::alike;
+use crate::parts::behind;
+use crate::parts::each_is;
+use crate::parts::front;
+use crate::parts::part;
+use engine::answer::check_number;
+use engine::answer::length;
+use engine::answer::number;
+use engine::run::run;
+use format::check::check_array;
+use queries::check::check_query;
+use spec_run::answer::Answer;
+use spec_run::answer::Refusal;
+
+/// The longest areas that a case may ask for: more than the engine needs, and more than it can fill.
+const WORK: usize = 70000;
+
+const ROOM: usize = 20480;
+
+/// Whether a call is as expected, or the first thing that differs.
+pub enum Verdict {
+    Agrees,
+    /// Another number.
+    Number,
+    /// Another length.
+    Length,
+    /// Other bytes in the result.
+    Result,
+    /// The result area beyond the result.
+    Rest,
+    /// The work area.
+    Work,
+    /// None of these: the case cannot be read, or asks for longer areas than there are.
+    Malformed,
+}
+
+/// A case of a run. Its query, its input, its joined array and the result that is expected stand one behind another.
+pub struct Case {
+    /// Where each of the four ends.
+    pub query_end: usize,
+    pub input_end: usize,
+    pub joined_end: usize,
+    pub result_end: usize,
+    /// How many bytes the work area has.
+    pub work: usize,
+    /// How many bytes the result area has.
+    pub room: usize,
+    /// The number that is expected.
+    pub number: u64,
+}
+
+/// The calls that only check.
+pub enum Check {
+    Array,
+    Query,
+}
+
+/// The byte that fills the result area beyond the result, by the number: a refusal from 8 on clears the whole area.
+fn rest_byte(n: u64) -> u8 {
+    if n < 8 { 187 } else { 0 }
+}
+
+/// The byte that fills the work area after the run, by the number: only refusal 1 leaves the area as it was.
+fn work_byte(n: u64) -> u8 {
+    if n == 1 { 170 } else { 0 }
+}
+
+/// Compares the areas after a run whose number n and whose length are as expected.
+fn areas(n: u64, expected: &[u8], work: &[u8], result: &[u8]) -> Verdict {
+    if !alike(front(result, expected.len()), expected) {
+        return Verdict::Result;
+    }
+    if !each_is(behind(result, expected.len()), rest_byte(n)) {
+        return Verdict::Rest;
+    }
+    if !each_is(work, work_byte(n)) {
+        return Verdict::Work;
+    }
+    Verdict::Agrees
+}
+
+/// Compares an answer with the number n and the result that are expected.
+fn answered(a: Answer, n: u64, expected: &[u8], work: &[u8], result: &[u8]) -> Verdict {
+    if number(a) != n {
+        return Verdict::Number;
+    }
+    if length(a) != expected.len() {
+        return Verdict::Length;
+    }
+    areas(n, expected, work, result)
+}
+
+/// Runs a case in areas that have the lengths that it asks for.
+fn compare_in(bytes: &[u8], c: Case, work: &mut [u8], result: &mut [u8]) -> Verdict {
+    let a = run(
+        front(bytes, c.query_end),
+        part(bytes, c.query_end, c.input_end),
+        part(bytes, c.input_end, c.joined_end),
+        work,
+        result,
+    );
+    answered(
+        a,
+        c.number,
+        part(bytes, c.joined_end, c.result_end),
+        work,
+        result,
+    )
+}
+
+/// Runs a case, whose parts stand in `bytes`, and compares it with what is expected.
+pub fn compare(bytes: &[u8], c: Case) -> Verdict {
+    let mut work = [170u8; WORK];
+    let mut result = [187u8; ROOM];
+    let w = c.work;
+    let r = c.room;
+    if WORK < w {
+        return Verdict::Malformed;
+    }
+    if ROOM < r {
+        return Verdict::Malformed;
+    }
+    compare_in(bytes, c, &mut work[..w], &mut result[..r])
+}
+
+/// The number of a check.
+fn number_of_check(c: Check, bytes: &[u8]) -> u64 {
+    match c {
+        Check::Array => {
+            let c = check_array(bytes);
+            check_number(c, Refusal::InputLong, Refusal::InputMalformed)
+        }
+        Check::Query => {
+            let c = check_query(bytes);
+            check_number(c, Refusal::QueryLong, Refusal::QueryMalformed)
+        }
+    }
+}
+
+/// Checks bytes, and compares the number with the one that is expected.
+pub fn compare_check(c: Check, bytes: &[u8], n: u64) -> Verdict {
+    if number_of_check(c, bytes) == n {
+        return Verdict::Agrees;
+    }
+    Verdict::Number
+}

@@ -1,0 +1,6 @@
+-- Definitions.
+pub mod Cut
+pub mod Alone
+-- Laws.
+pub mod CutLaws
+pub mod AloneLaws

@@ -1,4 +1,0 @@
--- Definitions.
-pub mod Record
--- Laws.
-pub mod RecordLaws

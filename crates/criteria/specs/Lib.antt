@@ -1,0 +1,4 @@
+-- Definitions.
+pub mod Meets
+-- Laws.
+pub mod MeetsLaws

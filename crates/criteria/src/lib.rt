@@ -1,0 +1,2 @@
+//! Whether a tree meets a criterion, where both stand.
+pub mod criteria;

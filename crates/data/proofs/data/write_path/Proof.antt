@@ -1,0 +1,31 @@
+-- Made from Proof.ans by answers.py, which overwrites this file: edit Proof.ans.
+use Rattle.data.specs.WriteDataLaws.{path-plain}
+use borrow.Author.Needs.{needs}
+use Rattle.data.proofs.data.write_path.Statement.{statement}
+use Rattle.data.proofs.data.write_path.Tie as tie
+use Rattle.data.proofs.data.write_path.Reads as reads
+use Rattle.data.proofs.data.write_path.Lts as lts
+use Rattle.data.proofs.data.write_walk.Reads as write-walk-reads
+
+write-walk-requires : tie.Need-write-walk-requires
+write-walk-requires c κs = c .before .before .before .pre
+
+same-length : tie.Need-same-length
+same-length c = search needs
+
+returns : tie.Need-returns
+returns c =
+    path-plain (c .before .before .before .before .before .before .args .q .now)
+    (c .before .before .before .before .before .before .args .p)
+    (c .before .before .before .before .before .before .args .e)
+    (c .before .before .before .before .before .before .args .i)
+    (c .before .before .before .before .before .before .args .w .now)
+    (c .before .before .write-walk .last .0)
+    (c .before .before .before .before .before .before .args .a)
+    (c .before .before .before .before .before .before .args .b)
+    (c .before .before .before .before .before .before .args .d)
+    (c .before .before .before .before .before .before .args .stop)
+    (c .before .before .write-walk .result) (c .before .before .write-walk .ensures .1)
+
+pub write-path-spec : {M : Type 1} → statement M
+write-path-spec = tie.close (tie.spec write-walk-requires same-length returns)

@@ -1,0 +1,161 @@
+-- Made from Proof.ans by answers.py, which overwrites this file: edit Proof.ans.
+use native.Mathlib.Omega.{arith}
+use borrow.Author.Needs.{needs}
+use mathlib.Core.Path.{_≡_, refl, _∙_}
+use mathlib.Core.List.{List}
+use Prim.Native.Nat.{ℕ, _-_}
+use lib.ListN.{length}
+use Rattle.areas.specs.declared.area.Out.{Out}
+use Rattle.spec_queries.specs.Bytes.{pairF}
+use Rattle.queries.specs.PartLaws.{holds-of, list-places}
+use Rattle.group.specs.Grow.{sourcedPart, FirstAt, PairsReady, PairsGrow}
+use Rattle.group.specs.GrowLaws.{
+  pairs-done,
+  pairs-first,
+  pairs-stop,
+  pairs-rest,
+  pairs-next,
+}
+use Rattle.group.specs.PairLaws.{first-keep}
+use Rattle.group.proofs.class.add_identities.Statement.{statement}
+use Rattle.group.proofs.class.add_identities.Tie as tie
+use Rattle.group.proofs.class.add_identities.Reads as reads
+use Rattle.group.proofs.class.add_identities.Lts as lts
+use Rattle.areas.proofs.area.field_end.Reads as field-end-reads
+use Rattle.group.proofs.class.add_sourced.Reads as add-sourced-reads
+
+abbrev Inv-loop : tie.InvT-loop
+Inv-loop w₀ q p e x xe s se at₀ end₀ w at end =
+    PairsReady (FirstAt x xe s) w q at e s end × (length w ≡ length w₀)
+    × ((u : List ℕ) (r : Out) → PairsGrow (FirstAt x xe s) (sourcedPart) w u q at e s end r →
+    PairsGrow (FirstAt x xe s) (sourcedPart) w₀ u q p e s se r)
+
+abbrev μ-loop : tie.MeasureT-loop
+μ-loop w₀ q p e x xe s se at₀ end₀ w at end = e - at
+
+loop-holds : tie.Need-loop-holds Inv-loop μ-loop
+loop-holds c = (c .before .before .pre, refl, λ u r h. h)
+
+field-end-requires : tie.Need-field-end-requires Inv-loop μ-loop
+field-end-requires c κs =
+    omega (
+      arith,
+      list-places pairF (c .loop-test .taken) refl
+          (holds-of ((c .before .loop .inv .0) .asked)),
+    )
+
+add-sourced-requires : tie.Need-add-sourced-requires Inv-loop μ-loop
+add-sourced-requires c κs =
+    pairs-first (FirstAt (c .before .before .before .before .before .before .args .x)
+    (c .before .before .before .before .before .before .args .xe)
+    (c .before .before .before .before .before .before .args .s)) (sourcedPart)
+    (c .before .before .before .before .before .before .args .q .now)
+    (c .before .before .before .loop .at)
+    (c .before .before .before .before .before .before .args .e)
+    (c .before .before .before .loop .w)
+    (c .before .before .before .before .before .before .args .s)
+    (c .before .before .before .loop .end) (c .before .before .loop-test .taken)
+    (c .before .field-end .ensures) (c .before .before .before .loop .inv .0)
+
+enum-known-r : tie.Need-enum-known-r Inv-loop μ-loop
+enum-known-r c = search needs
+
+enum-told : tie.Need-enum-told Inv-loop μ-loop
+enum-told c = search needs
+
+same-length : tie.Need-same-length Inv-loop μ-loop
+same-length c = search needs
+
+returns : tie.Need-returns Inv-loop μ-loop
+returns c =
+    c .before .before .before .before .before .before .before .before .loop .inv .2
+    (c .before .before .before .before .add-sourced .last .0) Out.TooLarge
+    (pairs-stop (FirstAt (c .before .before .before .before .before .before .before .before .before .before .before .args .x)
+    (c .before .before .before .before .before .before .before .before .before .before .before .args .xe)
+    (c .before .before .before .before .before .before .before .before .before .before .before .args .s))
+    (sourcedPart) (c .before .before .before .before .before .before .before .before .before .before .before .args .q .now)
+    (c .before .before .before .before .before .before .before .before .loop .at)
+    (c .before .before .before .before .before .before .before .before .before .before .before .args .e)
+    (c .before .before .before .before .before .before .before .before .loop .w)
+    (c .before .before .before .before .before .before .before .before .before .before .before .args .s)
+    (c .before .before .before .before .before .before .before .before .loop .end)
+    (c .before .before .before .before .before .before .before .loop-test .taken)
+    (c .before .before .before .before .before .before .field-end .ensures)
+    (c .before .before .before .before .add-sourced .ensures) (c .enum-told .given .1))
+
+loop-less : tie.Need-loop-less Inv-loop μ-loop
+loop-less c =
+    omega (
+      arith,
+      list-places pairF
+          (c .before .before .before .before .before .before .before .before .loop-test .taken)
+          (c .before .before .before .before .before .before .before .field-end .ensures)
+          (holds-of ((c .before .before .before .before .before .before .before .before .before .loop .inv .0) .asked)),
+    )
+
+loop-again : tie.Need-loop-again Inv-loop μ-loop
+loop-again c = (
+  pairs-rest (FirstAt (c .before .before .before .before .before .before .before .before .before .before .before .before .args .x)
+      (c .before .before .before .before .before .before .before .before .before .before .before .before .args .xe)
+      (c .before .before .before .before .before .before .before .before .before .before .before .before .args .s))
+      (sourcedPart) (c .before .before .before .before .before .before .before .before .before .before .before .before .args .q .now)
+      (c .before .before .before .before .before .before .before .before .before .loop .at)
+      (c .before .before .before .before .before .before .before .before .before .before .before .before .args .e)
+      (c .before .before .before .before .before .before .before .before .before .loop .w)
+      (c .before .before .before .before .before .before .before .before .before .before .before .before .args .s)
+      (c .before .before .before .before .before .before .before .before .before .loop .end)
+      (c .before .before .before .before .before .before .before .before .loop-test .taken)
+      (c .before .before .before .before .before .before .before .field-end .ensures)
+      (c .before .before .before .before .before .add-sourced .ensures) first-keep
+      (c .before .r .given .1)
+      (c .before .before .before .before .before .before .before .before .before .loop .inv .0)
+      (c .before .before .before .before .before .add-sourced .kept .0),
+  c .before .before .before .before .before .add-sourced .kept .0 ∙
+      c .before .before .before .before .before .before .before .before .before .loop .inv .1,
+  λ u r h. c .before .before .before .before .before .before .before .before .before .loop .inv .2
+      u r (pairs-next (FirstAt
+      (c .before .before .before .before .before .before .before .before .before .before .before .before .args .x)
+      (c .before .before .before .before .before .before .before .before .before .before .before .before .args .xe)
+      (c .before .before .before .before .before .before .before .before .before .before .before .before .args .s))
+      (sourcedPart) (c .before .before .before .before .before .before .before .before .before .before .before .before .args .q .now)
+      (c .before .before .before .before .before .before .before .before .before .loop .at)
+      (c .before .before .before .before .before .before .before .before .before .before .before .before .args .e)
+      (c .before .before .before .before .before .before .before .before .before .loop .w)
+      (c .before .before .before .before .before .before .before .before .before .before .before .before .args .s)
+      (c .before .before .before .before .before .before .before .before .before .loop .end)
+      (c .before .before .before .before .before .before .before .before .loop-test .taken)
+      (c .before .before .before .before .before .before .before .field-end .ensures)
+      (c .before .before .before .before .before .add-sourced .ensures) first-keep
+      (c .before .r .given .1) u r h),
+)
+
+same-length-2 : tie.Need-same-length-2 Inv-loop μ-loop
+same-length-2 c = search needs
+
+returns-2 : tie.Need-returns-2 Inv-loop μ-loop
+returns-2 c =
+    c .before .loop .inv .2 (c .before .loop .w) (Out.At (c .before .loop .end))
+    (pairs-done (FirstAt (c .before .before .before .before .args .x)
+    (c .before .before .before .before .args .xe) (c .before .before .before .before .args .s))
+    (sourcedPart) (c .before .before .before .before .args .q .now) (c .before .loop .at)
+    (c .before .before .before .before .args .e) (c .before .loop .w)
+    (c .before .before .before .before .args .s) (c .before .loop .end) (c .loop-test .left)
+    ((c .before .loop .inv .0) .within))
+
+pub add-identities-spec : {M : Type 1} → statement M
+add-identities-spec =
+    tie.close
+    (tie.spec
+    Inv-loop
+    μ-loop
+    loop-holds
+    field-end-requires
+    add-sourced-requires
+    enum-known-r
+    enum-told
+    same-length
+    returns
+    loop-less
+    loop-again
+    same-length-2
+    returns-2)

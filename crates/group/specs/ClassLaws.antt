@@ -1,0 +1,131 @@
+-- Laws of the tree of a class: it begins as the bare void tree, and grows by the aggregates and then by the grouping
+-- pairs.
+use mathlib.Core.Path.{_≡_, refl, ap, ap₂}
+use mathlib.Core.List.{List, [], _∷_, _++_, map}
+use mathlib.Core.Bool.{Bool, true, false, cond}
+use Prim.Native.Nat.{ℕ, _+_, _≤_}
+use native.Mathlib.Omega.{arith}
+use lib.ListN.{length}
+use Rattle.areas.specs.declared.area.Out.{Out}
+use Rattle.areas.specs.declared.area.Out.the-variants.{At, TooLarge}
+use Rattle.spec_trees.specs.Limits.{treeMax, depthMax, aggregatesMax}
+use Rattle.spec_trees.specs.Lists.{filter, All, gather}
+use Rattle.spec_trees.specs.Tree.{Tree, bareVoid}
+use Rattle.spec_trees.specs.Bytes.{treeBytes}
+use Rattle.spec_trees.specs.Within.{Allowed, AllowedA}
+use Rattle.areas.specs.Area.{Is, Wrote}
+use Rattle.spec_queries.specs.Query.{Pair}
+use Rattle.spec_queries.specs.Rules.{OkPair, OkPairs}
+use Rattle.queries.specs.Places.{pairsBytes, arrayTrees, HoldsOk}
+use Rattle.spec_stages.specs.Merge.{build}
+use Rattle.spec_stages.specs.Group.{alike, aggregated, identified, sourced, Class, classTree}
+use Rattle.group.specs.Grow.{aggregateValue, identityValue, onePart, sourcedPart, FirstAt, ClassAt, Grown, PairsReady, PairsGrow}
+use Rattle.group.specs.GrowLaws.{grown-void, grown-stop, grown-next, grown-made}
+use Rattle.group.specs.PairLaws.{first-keep, class-keep}
+use Rattle.group.specs.Class.{ClassReady, MakesClass}
+
+-- ---- the parts of the tree, pair by pair
+aggregate-parts : (c : Class) (ps : List Pair) → map (aggregated c) ps ≡ gather (onePart aggregateValue c) ps
+unfolding gather aggregated
+aggregate-parts c [] = refl
+aggregate-parts c (p ∷ ps) = ap (λ l. aggregated c p ∷ l) (aggregate-parts c ps)
+
+identity-parts : (c : Class) (ps : List Pair) → map (identified c) (filter (sourced c) ps) ≡ gather (sourcedPart c) ps
+unfolding gather filter identified
+identity-parts c [] = refl
+identity-parts c (p ∷ ps) = go (sourced c p) (identity-parts c ps)
+  where
+    go : (b : Bool) → map (identified c) (filter (sourced c) ps) ≡ gather (sourcedPart c) ps
+        → map (identified c) (cond b (p ∷ filter (sourced c) ps) (filter (sourced c) ps)) ≡ cond b (onePart identityValue c p) [] ++ gather (sourcedPart c) ps
+    go true q = ap (λ l. identified c p ∷ l) q
+    go false q = q
+
+class-parts : (ags gs : List Pair) (c : Class) → classTree ags gs c ≡ build bareVoid (gather (onePart aggregateValue c) ags ++ gather (sourcedPart c) gs)
+unfolding classTree
+class-parts ags gs c = ap (build bareVoid) (ap₂ _++_ (aggregate-parts c ags) (identity-parts c gs))
+
+-- ---- what is asked of the pairs
+pairs-of : {m : ℕ} {q : List ℕ} {p e : ℕ} → HoldsOk (OkPairs m) pairsBytes q p e → HoldsOk (All OkPair) pairsBytes q p e
+pairs-of h = record { value = h .value; allowed = h .allowed .0; value-is = h .value-is }
+
+-- ---- the class of the first tree, of whatever stands there
+abbrev classOf : List Pair → Tree → List Tree → Class
+classOf gs t ts = (t, filter (alike gs t) ts)
+
+module _ {w q : List ℕ} {g ge x xe b s : ℕ} where
+  class-there : (gs : List Pair) (t : Tree) (ts : List Tree) → Is q g ge (pairsBytes gs) → Allowed depthMax t → Is w x xe (treeBytes t)
+      → AllowedA ts → Is w xe b (arrayTrees ts) → b ≤ s → ClassAt q g ge x xe b s w (classOf gs t ts)
+  class-there gs t ts hg ot ht os hs l = record {
+    pairs = gs;
+    rest = ts;
+    members = refl;
+    pairs-is = hg;
+    allowed = ot;
+    first-is = ht;
+    rest-allowed = os;
+    rest-is = hs;
+    below = l;
+  }
+
+  first-there : (c : Class) → ClassAt q g ge x xe b s w c → FirstAt x xe s w c
+  first-there c h = record { allowed = h .allowed; first-is = h .first-is; below = omega (arith, h .below, h .rest-is .ends) }
+
+module _ {w q : List ℕ} {ag age g ge x xe b s : ℕ} (h : ClassReady w q ag age g ge x xe b s) {w1 : List ℕ} {z : ℕ} (l : length w1 ≡ length w)
+    (k : Wrote w w1 s (s + treeMax) (treeBytes bareVoid) (At z)) where
+  abbrev start : Grown w w1 s bareVoid [] (At z)
+  start = grown-void (h .room) k
+
+  pub class-ready : PairsReady (ClassAt q g ge x xe b s) w1 q ag age s z
+  class-ready =
+      let a = h .first in
+      let r = h .rest in
+      let gs = h .grouping in
+      let t = start .tree-is z refl in
+      record {
+        members = classOf (gs .value) (a .value) (r .value);
+        there = class-keep (classOf (gs .value) (a .value) (r .value)) (start .below)
+            (class-there (gs .value) (a .value) (r .value) (gs .value-is) (a .allowed) (a .value-is) (r .allowed) (r .value-is) (h .below));
+        asked = pairs-of (h .aggregates);
+        whole = record { tree = t .tree; ok = t .ok; tree-is = t .stands };
+        within = t .within;
+        room = omega (arith, h .room);
+        small = omega (arith, h .small);
+      }
+
+  module _ {w2 : List ℕ} {r : Out} (j : PairsGrow (ClassAt q g ge x xe b s) (onePart aggregateValue) w1 w2 q ag age s z r) where
+    -- the aggregates were built in, of whatever stands there
+    aggregates-grown : (ags gs : List Pair) (t : Tree) (ts : List Tree) → OkPairs aggregatesMax ags → Is q ag age (pairsBytes ags) → Is q g ge (pairsBytes gs)
+        → Allowed depthMax t → Is w x xe (treeBytes t) → AllowedA ts → Is w xe b (arrayTrees ts)
+        → Grown w w2 s bareVoid (gather (onePart aggregateValue (classOf gs t ts)) ags) r
+    aggregates-grown ags gs t ts oa ha hg ot ht os hs =
+        let there = class-keep (classOf gs t ts) (start .below) (class-there gs t ts hg ot ht os hs (h .below)) in
+        grown-next start (gather (onePart aggregateValue (classOf gs t ts)) ags) refl
+        (λ y oy hy. j (classOf gs t ts) ags y there (oa .0) ha oy hy)
+
+    pub class-stop : r ≡ TooLarge → MakesClass w w2 q ag age g ge x xe b s TooLarge
+    class-stop y ags gs t ts oa ha og hg ot ht os hs =
+        grown-made (class-parts ags gs (classOf gs t ts))
+        (grown-stop (aggregates-grown ags gs t ts oa ha hg ot ht os hs) (gather (sourcedPart (classOf gs t ts)) gs) y)
+
+    module _ {i : ℕ} (y : r ≡ At i) where
+      pub identities-ready : length w2 ≡ length w1 → PairsReady (FirstAt x xe s) w2 q g ge s i
+      identities-ready l2 =
+          let a = class-ready in
+          let n = j (a .members) (a .asked .value) (a .whole .tree) (a .there) (a .asked .allowed) (a .asked .value-is) (a .whole .ok) (a .whole .tree-is) in
+          let t = n .tree-is i y in
+          record {
+            members = a .members;
+            there = first-keep (a .members) (n .below) (first-there (a .members) (a .there));
+            asked = pairs-of (h .grouping);
+            whole = record { tree = t .tree; ok = t .ok; tree-is = t .stands };
+            within = t .within;
+            room = omega (arith, h .room);
+            small = omega (arith, h .small);
+          }
+
+      pub class-made : {w3 : List ℕ} {o : Out} → PairsGrow (FirstAt x xe s) sourcedPart w2 w3 q g ge s i o → MakesClass w w3 q ag age g ge x xe b s o
+      class-made {w3} {o} k2 ags gs t ts oa ha og hg ot ht os hs =
+          let n = aggregates-grown ags gs t ts oa ha hg ot ht os hs in
+          let there = first-keep (classOf gs t ts) (n .below) (first-there (classOf gs t ts) (class-there gs t ts hg ot ht os hs (h .below))) in
+          grown-made (class-parts ags gs (classOf gs t ts))
+          (grown-next n (gather (sourcedPart (classOf gs t ts)) gs) y (λ z oz hz. k2 (classOf gs t ts) gs z there (og .0) hg oz hz))

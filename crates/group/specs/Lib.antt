@@ -1,0 +1,13 @@
+-- Definitions.
+pub mod Keys
+pub mod First
+pub mod Members
+pub mod Grow
+pub mod Class
+-- Laws.
+pub mod KeyLaws
+pub mod FirstLaws
+pub mod MembersLaws
+pub mod GrowLaws
+pub mod PairLaws
+pub mod ClassLaws

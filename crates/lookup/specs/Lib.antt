@@ -1,0 +1,6 @@
+-- Definitions.
+pub mod Matching
+pub mod Lookup
+-- Laws.
+pub mod MatchingLaws
+pub mod LookupLaws

@@ -1,0 +1,4 @@
+-- Definitions.
+pub mod MergeBytes
+-- Laws.
+pub mod MergeBytesLaws

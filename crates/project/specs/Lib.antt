@@ -1,0 +1,4 @@
+-- Definitions.
+pub mod Project
+-- Laws.
+pub mod ProjectLaws

@@ -1,0 +1,157 @@
+-- The table by tag: which tags may stand inside a field, in which order and how many. The code's constant is this list
+-- (`table::rule_of`), and `TableLaws` shows that it says what the readers of `Decode` read.
+use mathlib.Core.List.{List, [], _∷_}
+use mathlib.Core.Bool.{Bool, _&&_}
+use Prim.Native.Nat.{ℕ, zero, suc}
+use lib.ListN.{getD}
+use lib.Dec.{leb}
+use Rattle.spec_trees.specs.Limits.{stagesMax, itemsMax, membersMax, aggregatesMax, groupingMax}
+use Rattle.queries.specs.declared.table.Child.{Child}
+use Rattle.queries.specs.declared.table.Rule.{Rule}
+
+-- ---- children
+-- what a child may be: its tag is `low` to `high`, and its content has at least `least` bytes
+abbrev pub child : ℕ → ℕ → ℕ → Child
+child low high least = record { 0 = low; 1 = high; 2 = least }
+
+-- whether a child may have the tag t and n content bytes
+unfoldable pub allowed : Child → ℕ → ℕ → Bool
+allowed ch t n = leb (ch .0) t && (leb t (ch .1) && leb (ch .2) n)
+
+-- ---- kinds of children: a child is named by its place here
+abbrev pub kinds : List Child
+kinds =
+    child 1 0 0
+    ∷ child 1 1 0
+    ∷ child 17 21 0
+    ∷ child 32 32 0
+    ∷ child 32 32 1
+    ∷ child 33 39 0
+    ∷ child 40 45 0
+    ∷ child 46 46 0
+    ∷ child 47 48 0
+    ∷ child 49 49 0
+    ∷ child 50 50 0
+    ∷ child 51 51 0
+    ∷ []
+
+unfoldable pub kindAt : ℕ → Child
+kindAt k = getD kinds k (child 1 0 0)
+
+-- no tag is 1 to 0
+abbrev pub noChild : ℕ
+noChild = 0
+
+abbrev pub arrayChild : ℕ
+arrayChild = 1
+
+abbrev pub stageChild : ℕ
+stageChild = 2
+
+abbrev pub pathChild : ℕ
+pathChild = 3
+
+-- a path not empty
+abbrev pub givenChild : ℕ
+givenChild = 4
+
+abbrev pub criterionChild : ℕ
+criterionChild = 5
+
+abbrev pub dataChild : ℕ
+dataChild = 6
+
+abbrev pub divisorChild : ℕ
+divisorChild = 7
+
+abbrev pub itemChild : ℕ
+itemChild = 8
+
+abbrev pub pairChild : ℕ
+pairChild = 9
+
+abbrev pub aggregatesChild : ℕ
+aggregatesChild = 10
+
+abbrev pub groupingChild : ℕ
+groupingChild = 11
+
+-- ---- rules
+-- by kinds, the first child, the second, and each later one; the least and the greatest count
+abbrev pub rule : ℕ → ℕ → ℕ → ℕ → ℕ → Rule
+rule first second later least most = record { 0 = first; 1 = second; 2 = later; 3 = least; 4 = most }
+
+-- what the child behind n others may be
+unfoldable pub childAt : Rule → ℕ → Child
+childAt r zero = kindAt (r .0)
+childAt r (suc zero) = kindAt (r .1)
+childAt r (suc (suc n)) = kindAt (r .2)
+
+-- no child; just one, two or three
+abbrev pub holdsNothing : Rule
+holdsNothing = rule noChild noChild noChild 0 0
+
+abbrev pub holdsOne : ℕ → Rule
+holdsOne a = rule a noChild noChild 1 1
+
+abbrev pub holdsTwo : ℕ → ℕ → Rule
+holdsTwo a b = rule a b noChild 2 2
+
+abbrev pub holdsThree : ℕ → ℕ → ℕ → Rule
+holdsThree a b c = rule a b c 3 3
+
+-- n to m children of one kind
+abbrev pub holdsMany : ℕ → ℕ → ℕ → Rule
+holdsMany a n m = rule a a a n m
+
+-- no content passes, not even an empty one: the least count is above the greatest
+abbrev pub never : Rule
+never = rule noChild noChild noChild 1 0
+
+-- ---- the table
+abbrev pub rules : List Rule
+rules =
+    -- 0 to 15 belong to trees
+    never ∷ never ∷ never ∷ never ∷ never ∷ never ∷ never ∷ never
+    ∷ never ∷ never ∷ never ∷ never ∷ never ∷ never ∷ never ∷ never
+    -- 16 query
+    ∷ holdsMany stageChild 0 stagesMax
+    -- 17 match, 18 unwind, 19 project, 20 group, 21 lookup
+    ∷ holdsOne criterionChild
+    ∷ holdsOne pathChild
+    ∷ holdsMany itemChild 1 itemsMax
+    ∷ holdsTwo aggregatesChild groupingChild
+    ∷ holdsThree pathChild pathChild givenChild
+    -- 22 to 31 are no tags
+    ∷ never ∷ never ∷ never ∷ never ∷ never ∷ never ∷ never ∷ never ∷ never ∷ never
+    -- 32 path: labels, and no fields
+    ∷ never
+    -- 33 true, 34 exists, 35 equal, 36 same, 37 not, 38 and, 39 or
+    ∷ holdsNothing
+    ∷ holdsOne pathChild
+    ∷ holdsTwo pathChild arrayChild
+    ∷ holdsTwo pathChild pathChild
+    ∷ holdsOne criterionChild
+    ∷ holdsTwo criterionChild criterionChild
+    ∷ holdsTwo criterionChild criterionChild
+    -- 40 literal, 41 path, 42 list, 43 criterion, 44 choice, 45 reduced
+    ∷ holdsOne arrayChild
+    ∷ holdsOne pathChild
+    ∷ holdsMany dataChild 1 membersMax
+    ∷ holdsOne criterionChild
+    ∷ holdsThree criterionChild dataChild dataChild
+    ∷ holdsTwo pathChild divisorChild
+    -- 46 divisor: two bytes, and no fields
+    ∷ never
+    -- 47 keep, 48 place
+    ∷ holdsOne pathChild
+    ∷ holdsTwo dataChild givenChild
+    -- 49 pair, 50 aggregates, 51 grouping
+    ∷ holdsTwo pathChild givenChild
+    ∷ holdsMany pairChild 0 aggregatesMax
+    ∷ holdsMany pairChild 0 groupingMax
+    ∷ []
+
+-- the rule of a tag
+unfoldable pub ruleAt : ℕ → Rule
+ruleAt t = getD rules t never

@@ -1,0 +1,75 @@
+-- Trees that stand one behind another, as the list of an array: the first and the rest, none, and those behind an
+-- array's head.
+use mathlib.Core.Path.{_≡_, refl, sym, subst}
+use mathlib.Core.List.{List, [], _∷_}
+use Prim.Native.Nat.{ℕ, _+_, _≤_}
+use native.Mathlib.Omega.{arith}
+use lib.ListN.{length}
+use lib.Seq.{take-all}
+use Rattle.spec_trees.specs.Limits.{depthMax}
+use Rattle.spec_trees.specs.Tree.{Tree, trees}
+use Rattle.spec_trees.specs.Bytes.{bytes, treeF, treeFs, treeBytes, arrayF, arrayBytes}
+use Rattle.spec_trees.specs.Within.{Allowed, AllowedA}
+use Rattle.areas.specs.Area.{Is, fieldEnd}
+use Rattle.areas.specs.AreaLaws.{is-content, is-join}
+use Rattle.format.specs.Stand.{treesBytes}
+use Rattle.format.specs.StandLaws.{trees-parts, trees-none}
+use Rattle.queries.specs.Places.{arrayTrees, HoldsOk}
+
+-- the first tree, which ends at m, and those behind it
+pub record ArrayParts (w : List ℕ) (p m e : ℕ) (ts : List Tree) : Type 0 where
+  pub first : Tree
+  pub rest : List Tree
+  pub same : ts ≡ first ∷ rest
+  pub first-is : Is w p m (treeBytes first)
+  pub rest-is : Is w m e (arrayTrees rest)
+  pub after : p + 6 ≤ m
+  pub within : m ≤ e
+
+module _ {w : List ℕ} {p e : ℕ} where
+  pub array-parts : {m : ℕ} (ts : List Tree) → m ≡ fieldEnd w p → (p ≡ e → ⊥) → Is w p e (arrayTrees ts) → ArrayParts w p m e ts
+  unfolding bytes treeF
+  array-parts [] g n h = absurd (n (omega (arith, h .ends)))
+  array-parts {m} (t ∷ ts) g n h =
+      let a = trees-parts (trees (t ∷ ts)) g n h in
+      let z : t ≡ a .first = cc in
+      let y : trees ts ≡ a .rest = cc in
+      record {
+        first = t;
+        rest = ts;
+        same = refl;
+        first-is = subst (λ x. Is w p m (treeBytes x)) (sym z) (a .first-is);
+        rest-is = subst (λ x. Is w m e (treesBytes x)) (sym y) (a .rest-is);
+        after = a .after;
+        within = a .within;
+      }
+
+  pub array-none : (ts : List Tree) → p ≡ e → Is w p e (arrayTrees ts) → ts ≡ []
+  array-none [] z h = refl
+  array-none (t ∷ ts) z h = let y = trees-none (trees (t ∷ ts)) z h in let x : _≡_ {A = ℕ} 0 1 = cc in absurd (omega arith)
+
+  -- a tree before others
+  pub array-before : {m : ℕ} (t : Tree) (ts : List Tree) → Is w p m (treeBytes t) → Is w m e (arrayTrees ts) → Is w p e (arrayTrees (t ∷ ts))
+  unfolding bytes treeF treeBytes
+  array-before t ts h k = is-join h k
+
+module _ {w : List ℕ} {p m e : ℕ} (n : p ≡ e → ⊥) (g : m ≡ fieldEnd w p) (h : HoldsOk AllowedA arrayTrees w p e) where
+  pub array-places : (p + 6 ≤ m) × (m ≤ e) × (e ≤ length w)
+  array-places = let a = array-parts (h .value) g n (h .value-is) in (a .after, a .within, h .value-is .inside)
+
+  pub array-first : HoldsOk (Allowed depthMax) treeBytes w p m
+  array-first =
+      let a = array-parts (h .value) g n (h .value-is) in
+      record { value = a .first; allowed = subst AllowedA (a .same) (h .allowed) .0; value-is = a .first-is }
+
+  pub array-rest : HoldsOk AllowedA arrayTrees w m e
+  array-rest =
+      let a = array-parts (h .value) g n (h .value-is) in
+      record { value = a .rest; allowed = subst AllowedA (a .same) (h .allowed) .1; value-is = a .rest-is }
+
+-- the trees of an array stand behind its head
+pub array-reads : (s : List ℕ) (ts : List Tree) → s ≡ arrayBytes ts → Is s 3 (length s) (arrayTrees ts)
+unfolding arrayBytes arrayF
+array-reads s ts z =
+    let all : Is s 0 (length s) s = record { lies = take-all (length s) s (omega arith); ends = omega arith; inside = omega arith } in
+    is-content (1, bytes (treeFs (trees ts))) (subst (Is s 0 (length s)) z all)

@@ -1,4 +1,0 @@
--- Definitions.
-pub mod First
--- Laws.
-pub mod FirstLaws

@@ -1,0 +1,97 @@
+//! A row: its name, its call with the arguments, and what is expected.
+use crate::lines::begins;
+use crate::lines::line_end;
+use crate::lines::next_line;
+use crate::place::Place;
+use crate::place::argument;
+use crate::place::is_read;
+use crate::place::line_feed;
+use crate::place::number;
+use crate::place::word;
+use cases::compare::Case;
+use cases::compare::Check;
+use cases::compare::Verdict;
+use cases::compare::compare;
+use cases::compare::compare_check;
+use cases::parts::front;
+use cases::parts::part;
+
+/// Room for the bytes of a row: those of the longest, where each argument is just past its limit, are 36,867.
+const BYTES: usize = 40960;
+
+/// The name of a row: the rest of its first line, or all of it where it is no row.
+pub fn row_name(row: &[u8]) -> &[u8] {
+    let end = line_end(row, 0);
+    if begins(row, b"row ") {
+        return part(row, 4, end);
+    }
+    front(row, end)
+}
+
+/// The number that is expected.
+fn expected_number(row: &[u8], p: Place) -> Place {
+    line_feed(row, number(row, word(row, p, b"number")))
+}
+
+/// The result that is expected, if the number that was read last is 0.
+fn expected_result(row: &[u8], p: Place, bytes: &mut [u8]) -> Place {
+    if p.value == 0 {
+        return argument(row, p, b"result ", bytes);
+    }
+    p
+}
+
+/// The verdict of a row whose call only checks.
+fn check_row(row: &[u8], p: Place, c: Check) -> Verdict {
+    let mut bytes = [0u8; BYTES];
+    let b = argument(row, line_feed(row, p), b"bytes ", &mut bytes);
+    let n = expected_number(row, b);
+    if !is_read(row, n) {
+        return Verdict::Malformed;
+    }
+    compare_check(c, front(&bytes, n.end), n.value as u64)
+}
+
+/// The verdict of a row whose call is a run.
+fn run_row(row: &[u8], p: Place) -> Verdict {
+    let mut bytes = [0u8; BYTES];
+    let w = number(row, p);
+    let r = number(row, w);
+    let q = argument(row, line_feed(row, r), b"query ", &mut bytes);
+    let i = argument(row, q, b"input ", &mut bytes);
+    let j = argument(row, i, b"joined ", &mut bytes);
+    let n = expected_number(row, j);
+    let e = expected_result(row, n, &mut bytes);
+    if !is_read(row, e) {
+        return Verdict::Malformed;
+    }
+    let c = Case {
+        query_end: q.end,
+        input_end: i.end,
+        joined_end: j.end,
+        result_end: e.end,
+        work: w.value,
+        room: r.value,
+        number: n.value as u64,
+    };
+    compare(&bytes, c)
+}
+
+/// The verdict of a row.
+pub fn row_verdict(row: &[u8]) -> Verdict {
+    let p = Place {
+        at: next_line(row, 0),
+        end: 0,
+        value: 0,
+        sound: begins(row, b"row "),
+    };
+    let a = word(row, p, b"check-array");
+    if a.sound {
+        return check_row(row, a, Check::Array);
+    }
+    let q = word(row, p, b"check-query");
+    if q.sound {
+        return check_row(row, q, Check::Query);
+    }
+    run_row(row, word(row, p, b"run"))
+}

@@ -1,0 +1,11 @@
+-- Definitions.
+pub mod Query
+pub mod Bytes
+pub mod Decode
+pub mod Rules
+-- Laws.
+pub mod CriterionLaws
+pub mod DataLaws
+pub mod QueryLaws
+pub mod CutLaws
+pub mod Examples

@@ -1,0 +1,74 @@
+-- Queries: paths, criteria, data, items, pairs and stages.
+use mathlib.Core.List.{List, [], _∷_}
+use mathlib.Core.Bool.{Bool, _&&_}
+use Prim.Native.Nat.{ℕ}
+use lib.ListN.{length}
+use lib.Dec.{leb}
+use Rattle.spec_trees.specs.Limits.{pathMax, divisorMax}
+use Rattle.spec_trees.specs.Lists.{all}
+use Rattle.spec_trees.specs.Tree.{Tree, isLabel}
+
+-- labels, the outermost first
+abbrev pub Path : Type 0
+Path = List ℕ
+
+-- 0 to 8 labels
+unfoldable pub isPath : List ℕ → Bool
+isPath p = leb (length p) pathMax && all isLabel p
+
+-- 1 to 10,000
+unfoldable pub isDivisor : ℕ → Bool
+isDivisor n = leb 1 n && leb n divisorMax
+
+pub data Criterion : Type 0 where
+  -- document 01 calls it true
+  always : Criterion
+  exists : Path → Criterion
+  equal : Path → List Tree → Criterion
+  same : Path → Path → Criterion
+  -- not, and, or
+  negated : Criterion → Criterion
+  both : Criterion → Criterion → Criterion
+  either : Criterion → Criterion → Criterion
+
+mutual
+  pub data Data : Type 0 where
+    literal : List Tree → Data
+    path : Path → Data
+    listed : Datas → Data
+    test : Criterion → Data
+    choice : Criterion → Data → Data → Data
+    -- a path and a divisor
+    reduced : Path → ℕ → Data
+
+  -- the members of a list
+  pub data Datas : Type 0 where
+    ended : Datas
+    more : Data → Datas → Datas
+
+abbrev pub dataList : Datas → List Data
+dataList ended = []
+dataList (more d ds) = d ∷ dataList ds
+
+abbrev pub datas : List Data → Datas
+datas [] = ended
+datas (d ∷ ds) = more d (datas ds)
+
+-- what a project merges
+pub data Item : Type 0 where
+  keep : Path → Item
+  place : Data → Path → Item
+
+-- a pair of a group: where its values come from, and where they are placed (document 01's destination path)
+pub record Pair : Type 0 where
+  pub source : Path
+  pub target : Path
+
+pub data Stage : Type 0 where
+  match : Criterion → Stage
+  unwind : Path → Stage
+  project : List Item → Stage
+  -- aggregates, grouping
+  group : List Pair → List Pair → Stage
+  -- q, r, p: where the joined trees whose r equals the tree's q are placed
+  lookup : Path → Path → Path → Stage

@@ -1,0 +1,1 @@
+//! Queries and their byte form: definitions and the theorems that follow from them alone.

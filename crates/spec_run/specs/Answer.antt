@@ -1,0 +1,32 @@
+-- The one predicate of the certificate.
+use mathlib.Core.Path.{_≡_}
+use mathlib.Core.List.{List}
+use Prim.Native.Nat.{ℕ}
+use Rattle.spec_run.specs.declared.answer.Answer.{Answer}
+use Rattle.spec_run.specs.declared.answer.Answer.the-variants.{Accepted, Refused}
+use Rattle.spec_run.specs.Refusal.{numberOf}
+use Rattle.spec_run.specs.Run.{Call, Verdict, numberIn, lengthIn, resultAfter, plainRun}
+
+-- an answer's number and length
+abbrev pub numbered : Answer → ℕ
+numbered (Accepted n) = 0
+numbered (Refused r) = numberOf r
+
+abbrev pub lengthened : Answer → ℕ
+lengthened (Accepted n) = n
+lengthened (Refused r) = 0
+
+-- The call c is answered by this number and this length, with the result area and the work area left so: all four are
+-- the plain run's of this call
+pub record Answered (c : Call) (number length : ℕ) (result work : List ℕ) : Type 0 where
+  pub number-is : number ≡ plainRun c .number
+  pub length-is : length ≡ plainRun c .length
+  pub result-is : result ≡ plainRun c .result
+  pub work-is : work ≡ plainRun c .work
+
+-- of a part of the engine that ends a run: the answer a, with the result area left so, is what the verdict x says of
+-- that area
+pub record AnswersAs (area : List ℕ) (x : Verdict) (a : Answer) (left : List ℕ) : Type 0 where
+  pub number-is : numbered a ≡ numberIn x
+  pub length-is : lengthened a ≡ lengthIn x
+  pub result-is : left ≡ resultAfter area x

@@ -1,0 +1,127 @@
+-- The plain run on examples: each row of the table of refusals, the bench examples at the limits, the program.
+use mathlib.Core.Path.{_≡_, refl}
+use mathlib.Core.List.{List, [], _∷_, _++_}
+use Prim.Native.Nat.{ℕ}
+use lib.ListN.{replicate}
+use Rattle.spec_trees.specs.Tree.{Tree, node, text, bare, bareVoid}
+use Rattle.spec_trees.specs.Bytes.{arrayBytes}
+use Rattle.spec_trees.specs.Examples.{#, ⟨_⟩, _⇒_⨾_}
+use Rattle.spec_queries.specs.Query.{always, negated, match, unwind, group, lookup}
+use Rattle.spec_queries.specs.Bytes.{queryBytes}
+use Rattle.spec_stages.specs.Examples.{ran}
+use Rattle.spec_run.specs.Refusal.{keepsResult}
+use Rattle.spec_run.specs.Run.{Call, call, Outcome, reading, final, verdict, zeros, workAfter, resultAfter, numberIn, lengthIn, outcomeOf, plainRun, checkNumber, checkedQuery, checkedArray}
+use Rattle.spec_run.specs.Program.{headed, digit, hex, decimal, refusedText, shown, answered, program}
+
+-- The plain run. Under this name all definitions of this crate and of those below compute.
+unfoldable abbrev pub answer : Call → Outcome
+unfolding ran keepsResult reading final verdict zeros workAfter resultAfter numberIn lengthIn outcomeOf plainRun checkNumber checkedQuery checkedArray headed digit hex decimal refusedText shown answered program
+answer c = plainRun c
+
+-- a call with a work area of so many bytes
+abbrev lent : List ℕ → List ℕ → List ℕ → ℕ → List ℕ → Call
+lent q i j n r = call q i j (replicate n 7) r
+
+-- number, length, result area
+abbrev Row : Type 0
+Row = Call × (ℕ × ℕ × List ℕ)
+
+abbrev told : Call → ℕ × ℕ × List ℕ
+told c = let o = plainRun c in (o .number, o .length, o .result)
+
+-- each row is what the plain run tells
+abbrev AllHold : List Row → Type 0
+AllHold [] = Unit {0}
+AllHold (r ∷ rs) = (told (r .0) ≡ r .1) × AllHold rs
+
+abbrev no-stage : List ℕ
+no-stage = 16 ∷ 0 ∷ 0 ∷ []
+
+abbrev no-tree : List ℕ
+no-tree = 1 ∷ 0 ∷ 0 ∷ []
+
+abbrev nines : List ℕ
+nines = replicate 6 9
+
+abbrev noughts : List ℕ
+noughts = replicate 6 0
+
+abbrev over : List ℕ
+over = replicate 16385 0
+
+-- 100 bare voids under 1 and under 2
+abbrev hundreds : Tree
+hundreds = ⟨ 1 ⇒ replicate 100 bareVoid ⨾ 2 ⇒ replicate 100 bareVoid ⨾ bare ⟩
+
+-- an unwind by 1 of these makes an array of over 16,384 bytes, and a lookup makes the last tree too large
+abbrev late : List Tree
+late = ⟨ 1 ⇒ replicate 100 bareVoid ⨾ 2 ⇒ replicate 30 bareVoid ⨾ bare ⟩ ∷ ⟨ 1 ⇒ # 7 ∷ [] ⨾ 5 ⇒ replicate 50 bareVoid ⨾ bare ⟩ ∷ []
+
+-- two trees that together are too large for one
+abbrev twice : List Tree
+twice = hundreds ∷ hundreds ∷ []
+
+abbrev lateJoined : List Tree
+lateJoined = ⟨ 1 ⇒ # 7 ∷ [] ⨾ 2 ⇒ replicate 300 bareVoid ⨾ bare ⟩ ∷ []
+
+abbrev rows : List Row
+rows =
+    -- the ten refusals, in order; each call has the faults of the later ones too, where it can
+    (lent over over over 65535 nines, (1, 0, nines))
+    ∷ (lent (replicate 4097 0) over over 65536 nines, (2, 0, nines))
+    ∷ (lent (16 ∷ 0 ∷ 1 ∷ []) over over 65536 nines, (3, 0, nines))
+    ∷ (lent no-stage over over 65536 nines, (4, 0, nines))
+    ∷ (lent no-stage (1 ∷ 0 ∷ 0 ∷ 0 ∷ []) over 65536 nines, (5, 0, nines))
+    ∷ (lent no-stage no-tree over 65536 nines, (6, 0, nines))
+    ∷ (lent no-stage no-tree [] 65536 nines, (7, 0, nines))
+    ∷ (lent (queryBytes (lookup [] [] (3 ∷ []) ∷ [])) (arrayBytes (hundreds ∷ [])) (arrayBytes (hundreds ∷ [])) 65536 nines, (8, 0, noughts))
+    ∷ (lent (queryBytes (unwind (1 ∷ []) ∷ unwind (2 ∷ []) ∷ group [] [] ∷ [])) (arrayBytes (hundreds ∷ [])) no-tree 65536 nines, (9, 0, noughts))
+    ∷ (lent no-stage (arrayBytes (bareVoid ∷ [])) no-tree 65536 nines, (10, 0, noughts))
+    -- accepted: bytes beyond the length keep their value
+    ∷ (lent no-stage no-tree no-tree 65536 nines, (0, 3, 1 ∷ 0 ∷ 0 ∷ 9 ∷ 9 ∷ 9 ∷ []))
+    -- accepted, though 10,000 trees passed; with an empty group in place of match, above: 9
+    ∷ (
+      lent (queryBytes (unwind (1 ∷ []) ∷ unwind (2 ∷ []) ∷ match (negated always) ∷ [])) (arrayBytes (hundreds ∷ [])) no-tree 65536 nines,
+      (0, 3, 1 ∷ 0 ∷ 0 ∷ 9 ∷ 9 ∷ 9 ∷ []),
+    )
+    -- the first stretch with a fault decides: 9 there, though the stretch behind it would give 8, as it does alone
+    ∷ (
+      lent (queryBytes (unwind (1 ∷ []) ∷ group [] [] ∷ lookup (9 ∷ []) (9 ∷ []) (3 ∷ []) ∷ [])) (arrayBytes late) (arrayBytes twice) 65536 nines,
+      (9, 0, noughts),
+    )
+    ∷ (lent (queryBytes (group [] [] ∷ lookup (9 ∷ []) (9 ∷ []) (3 ∷ []) ∷ [])) (arrayBytes late) (arrayBytes twice) 65536 nines, (8, 0, noughts))
+    -- in one stretch 8 goes before 10: the last tree gets too large, and the list is over 16,384 bytes before it
+    ∷ (lent (queryBytes (unwind (1 ∷ []) ∷ lookup (1 ∷ []) (1 ∷ []) (3 ∷ []) ∷ [])) (arrayBytes late) (arrayBytes lateJoined) 65536 nines, (8, 0, noughts))
+    ∷ (lent (queryBytes (unwind (1 ∷ []) ∷ [])) (arrayBytes late) no-tree 65536 nines, (10, 0, noughts))
+    ∷ []
+
+pub rows-hold : AllHold rows
+unfolding answer
+rows-hold =
+    (refl, (refl, (refl, (refl, (refl, (refl, (refl, (refl, (refl, (refl, (refl, (refl, (refl, (refl, (refl, (refl, tt))))))))))))))))
+
+-- ---- at the limits: the input's number
+abbrev texts : ℕ → Tree
+texts n = node (text (replicate n 7)) bare
+
+abbrev numbered : List Tree → ℕ
+numbered ts = answer (lent no-stage (arrayBytes ts) no-tree 65536 (replicate 16384 0)) .number
+
+-- label 1 over 338 bare voids and a text: a tree of 2,048 bytes, and one byte more
+pub tree-limit : (numbered (⟨ 1 ⇒ replicate 338 bareVoid ++ texts 1 ∷ [] ⨾ bare ⟩ ∷ []) ≡ 0) × (numbered (⟨ 1 ⇒ replicate 338 bareVoid ++ texts 2 ∷ [] ⨾ bare ⟩ ∷ []) ≡ 5)
+unfolding answer
+tree-limit = (refl, refl)
+
+-- 2,729 bare voids and a text: an array of 16,384 bytes, and one byte more
+pub array-limit : (numbered (replicate 2729 bareVoid ++ texts 1 ∷ []) ≡ 0) × (numbered (replicate 2729 bareVoid ++ texts 2 ∷ []) ≡ 4)
+unfolding answer
+array-limit = (refl, refl)
+
+-- ---- the program: the document's example; nothing on standard input is refused as a query
+pub program-example : program (16 ∷ 0 ∷ 0 ∷ 1 ∷ 0 ∷ 0 ∷ 1 ∷ 0 ∷ 0 ∷ []) ≡ 48 ∷ 49 ∷ 48 ∷ 48 ∷ 48 ∷ 48 ∷ 10 ∷ []
+unfolding answer
+program-example = refl
+
+pub program-empty : program [] ≡ 114 ∷ 101 ∷ 102 ∷ 117 ∷ 115 ∷ 101 ∷ 100 ∷ 32 ∷ 51 ∷ 10 ∷ []
+unfolding answer
+program-empty = refl

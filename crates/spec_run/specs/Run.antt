@@ -1,0 +1,115 @@
+-- The plain run, and the calls that only check.
+use mathlib.Core.List.{List, _++_}
+use mathlib.Core.Bool.{cond, _&&_}
+use Prim.Native.Nat.{ℕ}
+use lib.ListN.{length, take, drop, replicate}
+use lib.Dec.{leb}
+use Rattle.spec_trees.specs.Limits.{arrayMax, workMin}
+use Rattle.spec_trees.specs.Size.{arraySize}
+use Rattle.spec_trees.specs.Bytes.{arrayBytes}
+use Rattle.spec_trees.specs.Readers.{Tested, accepted, overlong, malformed}
+use Rattle.spec_trees.specs.Decode.{readArray}
+use Rattle.spec_queries.specs.Decode.{readQuery}
+use Rattle.spec_stages.specs.Stages.{State, going, large, long, stages}
+use Rattle.spec_run.specs.declared.answer.Refusal.{Refusal}
+use Rattle.spec_run.specs.declared.answer.Refusal.the-variants.{WorkShort, QueryLong, QueryMalformed, InputLong, InputMalformed, JoinedLong, JoinedMalformed, TreeLarge, GroupLong, ResultLong}
+use Rattle.spec_run.specs.Refusal.{numberOf, keepsResult}
+
+-- ---- what a call is lent: three areas to read, a work area and a result area, each of any length and content
+pub record Call : Type 0 where
+  pub query : List ℕ
+  pub input : List ℕ
+  pub joined : List ℕ
+  pub work : List ℕ
+  pub result : List ℕ
+
+abbrev pub call : List ℕ → List ℕ → List ℕ → List ℕ → List ℕ → Call
+call q i j w r = record { query = q; input = i; joined = j; work = w; result = r }
+
+-- what it returns, and the result and the work area after it
+pub record Outcome : Type 0 where
+  pub number : ℕ
+  pub length : ℕ
+  pub result : List ℕ
+  pub work : List ℕ
+
+-- ---- what a run comes to: the bytes of an array, or a refusal
+pub data Verdict : Type 0 where
+  gives : List ℕ → Verdict
+  refused : Refusal → Verdict
+
+-- tests of a lent piece: over its limit, or malformed; else on with what it holds
+unfoldable pub reading : {A : Type 0} → Tested A → Refusal → Refusal → (A → Verdict) → Verdict
+reading (accepted a) r s f = f a
+reading overlong r s f = refused r
+reading malformed r s f = refused s
+
+-- after the last stage: a list that, as an array, passes 16,384 bytes or the room in the result area is refused
+unfoldable pub final : ℕ → State → Verdict
+final room large = refused TreeLarge
+final room long = refused GroupLong
+final room (going ts) =
+    cond (leb (arraySize ts) arrayMax && leb (arraySize ts) room) (gives (arrayBytes ts)) (refused ResultLong)
+
+-- tests 1 to 7, then the stages in the query's order over the input's list of trees; of the work area only its length
+-- counts
+unfoldable pub verdict : Call → Verdict
+verdict c =
+    cond (leb workMin (length (c .work)))
+    (
+    reading (readQuery (c .query)) QueryLong QueryMalformed λ ss.
+    reading (readArray (c .input)) InputLong InputMalformed λ ts.
+    reading (readArray (c .joined)) JoinedLong JoinedMalformed λ us.
+    final (length (c .result)) (stages us ss (going ts))
+    )
+    (refused WorkShort)
+
+-- ---- what is left in the two areas
+unfoldable pub zeros : List ℕ → List ℕ
+zeros area = replicate (length area) 0
+
+-- all zero if it is long enough, else as it was
+unfoldable pub workAfter : List ℕ → List ℕ
+workAfter work = cond (leb workMin (length work)) (zeros work) work
+
+-- result bytes beyond the length keep their value
+unfoldable pub resultAfter : List ℕ → Verdict → List ℕ
+resultAfter area (gives b) = b ++ drop (length b) area
+resultAfter area (refused r) = cond (keepsResult r) area (zeros area)
+
+-- ---- the plain run
+unfoldable pub numberIn : Verdict → ℕ
+numberIn (gives b) = 0
+numberIn (refused r) = numberOf r
+
+-- a refusal gives length 0
+unfoldable pub lengthIn : Verdict → ℕ
+lengthIn (gives b) = length b
+lengthIn (refused r) = 0
+
+unfoldable pub outcomeOf : Call → Verdict → Outcome
+outcomeOf c x = record {
+  number = numberIn x;
+  length = lengthIn x;
+  result = resultAfter (c .result) x;
+  work = workAfter (c .work);
+}
+
+unfoldable pub plainRun : Call → Outcome
+plainRun c = outcomeOf c (verdict c)
+
+-- the result bytes
+abbrev pub resultBytes : Outcome → List ℕ
+resultBytes o = take (o .length) (o .result)
+
+-- ---- a call that only checks: 2 or 3 for a query, 4 or 5 for an array, by the same tests
+unfoldable pub checkNumber : {A : Type 0} → Tested A → Refusal → Refusal → ℕ
+checkNumber (accepted a) r s = 0
+checkNumber overlong r s = numberOf r
+checkNumber malformed r s = numberOf s
+
+unfoldable pub checkedQuery : List ℕ → ℕ
+checkedQuery q = checkNumber (readQuery q) QueryLong QueryMalformed
+
+unfoldable pub checkedArray : List ℕ → ℕ
+checkedArray b = checkNumber (readArray b) InputLong InputMalformed

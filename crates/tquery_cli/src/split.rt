@@ -1,0 +1,22 @@
+//! Where the pieces of the program's input end.
+ghost use mathlib.Core.Path.{_≡_};
+ghost use Prim.Native.Nat.{_≤_};
+ghost use lib.ListN.{length};
+ghost use Rattle.tquery_cli.specs.Split.{pieceEnd};
+use areas::number::wide;
+
+/// Where the piece that begins at `from` ends: as long as its head says, or what is left. Fewer than three bytes have
+/// no head, and are all that is left.
+pub fn piece_end(s: &[u8], from: usize) -> usize
+    requires { ⌜ (from ≤ length (now s)) × (length (now s) ≤ 65536) ⌝ }
+    ensures { λ r. ⌜ r ≡ pieceEnd (now (s .entry)) from ⌝ }
+{
+    if s.len() < from + 3 {
+        return s.len();
+    }
+    let e = from + 3 + (wide(s[from + 1]) * 256 + wide(s[from + 2]));
+    if e < s.len() {
+        return e;
+    }
+    s.len()
+}

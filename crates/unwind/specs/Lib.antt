@@ -1,0 +1,4 @@
+-- Definitions.
+pub mod Outcomes
+-- Laws.
+pub mod OutcomeLaws

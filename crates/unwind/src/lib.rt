@@ -1,0 +1,2 @@
+//! The outcomes of an unwind, written into a lent area.
+pub mod unwind;

@@ -1,9 +1,0 @@
--- Definitions.
-pub mod Integer
-pub mod Value
-pub mod Write
--- Laws.
-pub mod IntegerLaws
-pub mod ValueLaws
-pub mod WriteDataLaws
-pub mod WritePathLaws
