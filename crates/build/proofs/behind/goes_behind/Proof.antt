@@ -9,8 +9,8 @@ use Rattle.build.proofs.behind.goes_behind.Tie as tie
 use Rattle.build.proofs.behind.goes_behind.Reads as reads
 use Rattle.build.proofs.behind.goes_behind.Lts as lts
 use Rattle.areas.proofs.area.field_end.Reads as field-end-reads
-use Rattle.format.proofs.labels.label_at.Reads as label-at-reads
 use Rattle.build.proofs.behind.last_label.Reads as last-label-reads
+use Rattle.format.proofs.labels.label_at.Reads as label-at-reads
 
 add-if1 : tie.Need-add-if1
 add-if1 c = search needs

@@ -9,10 +9,10 @@ use Rattle.build.proofs.build.add_part.Statement.{statement}
 use Rattle.build.proofs.build.add_part.Tie as tie
 use Rattle.build.proofs.build.add_part.Reads as reads
 use Rattle.build.proofs.build.add_part.Lts as lts
-use Rattle.format.proofs.depth.within_depth.Reads as within-depth-reads
 use Rattle.build.proofs.behind.append_part.Reads as append-part-reads
 use Rattle.build.proofs.behind.goes_behind.Reads as goes-behind-reads
 use Rattle.build.proofs.build.merge_part.Reads as merge-part-reads
+use Rattle.format.proofs.depth.within_depth.Reads as within-depth-reads
 
 within-depth-requires : tie.Need-within-depth-requires
 within-depth-requires c κs = standing-one (c .before .before .pre .part)

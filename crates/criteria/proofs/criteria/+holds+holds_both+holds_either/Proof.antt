@@ -35,10 +35,10 @@ use Rattle.criteria.proofs.criteria.+holds+holds_both+holds_either.Lts-
 use Rattle.criteria.proofs.criteria.holds_either.Reads as holds-either
 use Rattle.criteria.proofs.criteria.holds_either.Kinds as holds-either-kinds
 use Rattle.criteria.proofs.criteria.+holds+holds_both+holds_either.Lts-holds_either as holds-either-lts
-use Rattle.queries.proofs.criterion.criterion_at.Reads as criterion-at-reads
 use Rattle.paths.proofs.equality.path_equals_literal.Reads as path-equals-literal-reads
 use Rattle.paths.proofs.equality.same_paths.Reads as same-paths-reads
 use Rattle.paths.proofs.path.present.Reads as present-reads
+use Rattle.queries.proofs.criterion.criterion_at.Reads as criterion-at-reads
 use Rattle.criteria.proofs.criteria.+holds+holds_both+holds_either.{statement}
 use Rattle.criteria.proofs.criteria.+holds+holds_both+holds_either.Tie.{close}
 

@@ -4,7 +4,7 @@ use borrow.Author.Needs.{needs}
 use mathlib.Core.Path.{_≡_, refl, sym, _∙_}
 use mathlib.Core.List.{List}
 use mathlib.Core.Bool.{false}
-use Prim.Native.Nat.{ℕ, _+_, _*_, _-_, _≤_}
+use Prim.Native.Nat.{ℕ, _+_, _*_, _-_}
 use lib.ListN.{length}
 use Rattle.queries.specs.Places.{datasBytes}
 use Rattle.queries.specs.PartLaws.{holds-of}
@@ -44,7 +44,6 @@ use Rattle.data.proofs.data.write_list.Reads as write-list
 use Rattle.data.proofs.data.write_list.Kinds as write-list-kinds
 use Rattle.data.proofs.data.+write_data+write_list.Lts-write_list as write-list-lts
 use Rattle.areas.proofs.area.field_end.Reads as field-end-reads
-use Rattle.queries.proofs.data.data_at.Reads as data-at-reads
 use Rattle.criteria.proofs.criteria.holds.Reads as holds-reads
 use Rattle.data.proofs.data.write_literal.Reads as write-literal-reads
 use Rattle.data.proofs.data.write_path.Reads as write-path-reads
@@ -54,6 +53,7 @@ use Rattle.data.proofs.value.answer_of.Reads as answer-of-reads
 use Rattle.data.proofs.value.end_of.Reads as end-of-reads
 use Rattle.data.proofs.value.found_of.Reads as found-of-reads
 use Rattle.data.proofs.value.is_large.Reads as is-large-reads
+use Rattle.queries.proofs.data.data_at.Reads as data-at-reads
 use Rattle.data.proofs.data.+write_data+write_list.{statement}
 use Rattle.data.proofs.data.+write_data+write_list.Tie.{close}
 

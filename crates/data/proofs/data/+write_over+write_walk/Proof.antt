@@ -43,15 +43,15 @@ use Rattle.data.proofs.data.write_walk.Kinds as write-walk-kinds
 use Rattle.data.proofs.data.+write_over+write_walk.Lts-write_walk as write-walk-lts
 use Rattle.areas.proofs.area.copy.Reads as copy-reads
 use Rattle.areas.proofs.area.field_end.Reads as field-end-reads
-use Rattle.queries.proofs.path.steps.Reads as steps-reads
 use Rattle.data.proofs.data.in_piece.Reads as in-piece-reads
 use Rattle.data.proofs.data.write_leaf.Reads as write-leaf-reads
-use Rattle.paths.proofs.path.under.Reads as under-reads
 use Rattle.data.proofs.value.answer_of.Reads as answer-of-reads
 use Rattle.data.proofs.value.end_of.Reads as end-of-reads
 use Rattle.data.proofs.value.found_of.Reads as found-of-reads
 use Rattle.data.proofs.value.is_large.Reads as is-large-reads
 use Rattle.data.proofs.value.value_of.Reads as value-of-reads
+use Rattle.paths.proofs.path.under.Reads as under-reads
+use Rattle.queries.proofs.path.steps.Reads as steps-reads
 use Rattle.data.proofs.data.+write_over+write_walk.{statement}
 use Rattle.data.proofs.data.+write_over+write_walk.Tie.{close}
 

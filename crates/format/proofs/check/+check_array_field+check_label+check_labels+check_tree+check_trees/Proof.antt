@@ -2,9 +2,8 @@
 use borrow.Author.Needs.{needs}
 use denote.Ref.{now}
 use native.Mathlib.Omega.{arith}
-use mathlib.Core.Path.{_≡_, sym, _∙_, ap}
+use mathlib.Core.Path.{_≡_, sym, _∙_}
 use Prim.Native.Nat.{_≤_, _+_, _*_, _-_}
-use lib.ListN.{length}
 use lib.Seq.{slice}
 use Rattle.format.specs.Check.{treesOk, labelsOk}
 use Rattle.format.specs.HeadLaws.{head-found, span-found}

@@ -1,6 +1,5 @@
 -- Made from Proof.ans by answers.py, which overwrites this file: edit Proof.ans.
 use denote.Ref.{now}
-use native.Mathlib.Omega.{arith}
 use Rattle.format.specs.HeadLaws.{span-field, span-trailing, span-nothing}
 use mathlib.Core.Path.{sym, _∙_}
 use borrow.Author.Needs.{needs}

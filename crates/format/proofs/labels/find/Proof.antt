@@ -1,6 +1,6 @@
 -- Made from Proof.ans by answers.py, which overwrites this file: edit Proof.ans.
 use native.Mathlib.Omega.{arith}
-use mathlib.Core.Path.{_≡_, refl, _∙_}
+use mathlib.Core.Path.{refl, _∙_}
 use Prim.Native.Nat.{_-_}
 use Rattle.format.specs.declared.labels.Found.{Found}
 use Rattle.format.specs.Stand.{labelsBytes, Holds, Finds}

@@ -17,9 +17,9 @@ use Rattle.group.proofs.class.add_aggregate.Statement.{statement}
 use Rattle.group.proofs.class.add_aggregate.Tie as tie
 use Rattle.group.proofs.class.add_aggregate.Reads as reads
 use Rattle.group.proofs.class.add_aggregate.Lts as lts
-use Rattle.group.proofs.members.write_members.Reads as write-members-reads
 use Rattle.build.proofs.part.add_written.Reads as add-written-reads
 use Rattle.build.proofs.part.place_value.Reads as place-value-reads
+use Rattle.group.proofs.members.write_members.Reads as write-members-reads
 use Rattle.queries.proofs.item.pair_at.Reads as pair-at-reads
 use Rattle.queries.proofs.path.steps.Reads as steps-reads
 

@@ -9,13 +9,7 @@ use Rattle.areas.specs.declared.area.Out.{Out}
 use Rattle.spec_queries.specs.Bytes.{pairF}
 use Rattle.queries.specs.PartLaws.{holds-of, list-places}
 use Rattle.group.specs.Grow.{onePart, aggregateValue, ClassAt, PairsReady, PairsGrow}
-use Rattle.group.specs.GrowLaws.{
-  pairs-done,
-  pairs-first,
-  pairs-stop,
-  pairs-rest,
-  pairs-next,
-}
+use Rattle.group.specs.GrowLaws.{pairs-done, pairs-first, pairs-stop, pairs-rest, pairs-next}
 use Rattle.group.specs.PairLaws.{class-keep}
 use Rattle.group.proofs.class.add_aggregates.Statement.{statement}
 use Rattle.group.proofs.class.add_aggregates.Tie as tie

@@ -19,9 +19,9 @@ use Rattle.group.proofs.class.add_identity.Reads as reads
 use Rattle.group.proofs.class.add_identity.Lts as lts
 use Rattle.build.proofs.part.add_written.Reads as add-written-reads
 use Rattle.build.proofs.part.place_value.Reads as place-value-reads
+use Rattle.data.proofs.data.write_path.Reads as write-path-reads
 use Rattle.queries.proofs.item.pair_at.Reads as pair-at-reads
 use Rattle.queries.proofs.path.steps.Reads as steps-reads
-use Rattle.data.proofs.data.write_path.Reads as write-path-reads
 
 pair-at-requires : tie.Need-pair-at-requires
 pair-at-requires c κs = holds-of (c .before .before .pre .asked)

@@ -9,8 +9,8 @@ use Rattle.group.proofs.class.add_sourced.Tie as tie
 use Rattle.group.proofs.class.add_sourced.Reads as reads
 use Rattle.group.proofs.class.add_sourced.Lts as lts
 use Rattle.group.proofs.class.add_identity.Reads as add-identity-reads
-use Rattle.queries.proofs.item.pair_at.Reads as pair-at-reads
 use Rattle.paths.proofs.path.present.Reads as present-reads
+use Rattle.queries.proofs.item.pair_at.Reads as pair-at-reads
 
 pair-at-requires : tie.Need-pair-at-requires
 pair-at-requires c κs = holds-of (c .before .before .pre .asked)

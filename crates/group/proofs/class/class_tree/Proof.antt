@@ -6,9 +6,9 @@ use Rattle.group.proofs.class.class_tree.Statement.{statement}
 use Rattle.group.proofs.class.class_tree.Tie as tie
 use Rattle.group.proofs.class.class_tree.Reads as reads
 use Rattle.group.proofs.class.class_tree.Lts as lts
+use Rattle.build.proofs.part.begin.Reads as begin-reads
 use Rattle.group.proofs.class.add_aggregates.Reads as add-aggregates-reads
 use Rattle.group.proofs.class.add_identities.Reads as add-identities-reads
-use Rattle.build.proofs.part.begin.Reads as begin-reads
 
 begin-requires : tie.Need-begin-requires
 begin-requires c κs = omega (arith, c .before .before .before .pre .room)

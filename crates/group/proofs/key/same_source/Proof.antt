@@ -5,8 +5,8 @@ use Rattle.group.proofs.key.same_source.Statement.{statement}
 use Rattle.group.proofs.key.same_source.Tie as tie
 use Rattle.group.proofs.key.same_source.Reads as reads
 use Rattle.group.proofs.key.same_source.Lts as lts
-use Rattle.queries.proofs.item.pair_at.Reads as pair-at-reads
 use Rattle.paths.proofs.equality.same_paths.Reads as same-paths-reads
+use Rattle.queries.proofs.item.pair_at.Reads as pair-at-reads
 
 pair-at-requires : tie.Need-pair-at-requires
 pair-at-requires c κs = search needs

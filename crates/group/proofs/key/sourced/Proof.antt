@@ -5,8 +5,8 @@ use Rattle.group.proofs.key.sourced.Statement.{statement}
 use Rattle.group.proofs.key.sourced.Tie as tie
 use Rattle.group.proofs.key.sourced.Reads as reads
 use Rattle.group.proofs.key.sourced.Lts as lts
-use Rattle.queries.proofs.item.pair_at.Reads as pair-at-reads
 use Rattle.paths.proofs.path.present.Reads as present-reads
+use Rattle.queries.proofs.item.pair_at.Reads as pair-at-reads
 
 pair-at-requires : tie.Need-pair-at-requires
 pair-at-requires c κs = search needs

@@ -7,8 +7,8 @@ use Rattle.group.proofs.members.write_member.Statement.{statement}
 use Rattle.group.proofs.members.write_member.Tie as tie
 use Rattle.group.proofs.members.write_member.Reads as reads
 use Rattle.group.proofs.members.write_member.Lts as lts
-use Rattle.group.proofs.members.is_member.Reads as is-member-reads
 use Rattle.data.proofs.data.write_path.Reads as write-path-reads
+use Rattle.group.proofs.members.is_member.Reads as is-member-reads
 
 is-member-requires : tie.Need-is-member-requires
 is-member-requires c κs = (

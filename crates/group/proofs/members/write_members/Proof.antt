@@ -24,11 +24,11 @@ use Rattle.group.proofs.members.write_members.Tie as tie
 use Rattle.group.proofs.members.write_members.Reads as reads
 use Rattle.group.proofs.members.write_members.Lts as lts
 use Rattle.areas.proofs.area.field_end.Reads as field-end-reads
-use Rattle.group.proofs.members.write_member.Reads as write-member-reads
 use Rattle.data.proofs.value.answer_of.Reads as answer-of-reads
 use Rattle.data.proofs.value.end_of.Reads as end-of-reads
 use Rattle.data.proofs.value.found_of.Reads as found-of-reads
 use Rattle.data.proofs.value.is_large.Reads as is-large-reads
+use Rattle.group.proofs.members.write_member.Reads as write-member-reads
 
 abbrev Inv-loop : tie.InvT-loop
 Inv-loop w₀ q g ge p e x xe b d stop at₀ to₀ any₀ w at to any =

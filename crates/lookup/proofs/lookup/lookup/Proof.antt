@@ -9,11 +9,11 @@ use Rattle.lookup.proofs.lookup.lookup.Statement.{statement}
 use Rattle.lookup.proofs.lookup.lookup.Tie as tie
 use Rattle.lookup.proofs.lookup.lookup.Reads as reads
 use Rattle.lookup.proofs.lookup.lookup.Lts as lts
-use Rattle.lookup.proofs.lookup.copy_partners.Reads as copy-partners-reads
 use Rattle.build.proofs.part.add_written.Reads as add-written-reads
 use Rattle.build.proofs.part.place_value.Reads as place-value-reads
-use Rattle.queries.proofs.path.steps.Reads as steps-reads
 use Rattle.data.proofs.value.value_of.Reads as value-of-reads
+use Rattle.lookup.proofs.lookup.copy_partners.Reads as copy-partners-reads
+use Rattle.queries.proofs.path.steps.Reads as steps-reads
 
 add-d : tie.Need-add-d
 add-d c = search needs

@@ -3,7 +3,7 @@ use native.Mathlib.Omega.{arith}
 use borrow.Author.Needs.{needs}
 use mathlib.Core.Path.{_≡_, refl, _∙_}
 use mathlib.Core.List.{List}
-use Prim.Native.Nat.{ℕ, _+_, _*_, _-_, _≤_, _<_}
+use Prim.Native.Nat.{ℕ, _+_, _*_, _-_, _≤_}
 use lib.ListN.{length}
 use Rattle.areas.specs.declared.area.Out.{Out}
 use Rattle.format.specs.Stand.{labelsBytes, treesBytes}
@@ -42,6 +42,7 @@ use Rattle.merge.specs.MergeBytesLaws.{
   ready-node,
   trees-turn,
 }
+use Prim.Native.Nat.{_<_}
 use borrow.Fn.Kinds.{In}
 use borrow.Fn.PlainCycle.{Measures, is, falls, and}
 use Rattle.merge.proofs.merge.merge_entry.Reads as merge-entry

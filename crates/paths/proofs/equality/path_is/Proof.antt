@@ -3,7 +3,6 @@ use native.Mathlib.Omega.{arith}
 use mathlib.Core.Path.{sym, _∙_}
 use borrow.Author.Tests.{not-true, not-false}
 use Rattle.spec_stages.specs.Paths.{apply}
-use Rattle.paths.specs.ComparedLaws.{holds-span}
 use Rattle.paths.specs.EqualLaws.{array-absent, array-missing, array-given, array-part}
 use borrow.Author.Needs.{needs}
 use Rattle.paths.proofs.equality.path_is.Statement.{statement}
@@ -11,10 +10,10 @@ use Rattle.paths.proofs.equality.path_is.Tie as tie
 use Rattle.paths.proofs.equality.path_is.Reads as reads
 use Rattle.paths.proofs.equality.path_is.Lts as lts
 use Rattle.areas.proofs.compare.same_bytes.Reads as same-bytes-reads
-use Rattle.queries.proofs.path.steps.Reads as steps-reads
 use Rattle.paths.proofs.equality.gives.Reads as gives-reads
 use Rattle.paths.proofs.path.piece.Reads as piece-reads
 use Rattle.paths.proofs.path.present.Reads as present-reads
+use Rattle.queries.proofs.path.steps.Reads as steps-reads
 
 steps-requires : tie.Need-steps-requires
 steps-requires c κs = search needs

@@ -3,18 +3,13 @@ use native.Mathlib.Omega.{arith}
 use borrow.Author.Needs.{needs}
 use mathlib.Core.Path.{_≡_, sym, _∙_}
 use Prim.Native.Nat.{ℕ, _-_, _≤_, _<_}
-use lib.ListN.{getD, drop}
+use lib.ListN.{getD}
 use borrow.Author.Tests.{not-true, not-false}
 use Rattle.spec_trees.specs.Tree.{bareVoid}
 use Rattle.spec_trees.specs.Bytes.{treeBytes}
 use Rattle.spec_stages.specs.Paths.{apply}
 use Rattle.paths.specs.Walk.{given, TellsBoth}
-use Rattle.paths.specs.EqualLaws.{
-  elements-count,
-  elements-other,
-  elements-more,
-  elements-all,
-}
+use Rattle.paths.specs.EqualLaws.{elements-count, elements-other, elements-more, elements-all}
 use Rattle.paths.proofs.equality.same_elements.Statement.{statement}
 use Rattle.paths.proofs.equality.same_elements.Tie as tie
 use Rattle.paths.proofs.equality.same_elements.Reads as reads
@@ -25,7 +20,8 @@ use Rattle.paths.proofs.path.count.Reads as count-reads
 abbrev Inv-loop : tie.InvT-loop
 Inv-loop q p e p2 e2 s a b s2 a2 b2 n j₀ j =
     (j ≤ n) × TellsBoth q p e p2 e2 s a b s2 a2 b2
-    (λ x y. (k : ℕ) → k < j → treeBytes (getD (given x) k bareVoid) ≡ treeBytes (getD (given y) k bareVoid))
+    (λ x y. (k : ℕ) → k < j → treeBytes (getD (given x) k bareVoid) ≡ treeBytes
+    (getD (given y) k bareVoid))
 
 abbrev μ-loop : tie.MeasureT-loop
 μ-loop q p e p2 e2 s a b s2 a2 b2 n j₀ j = n - j

@@ -8,9 +8,9 @@ use Rattle.paths.proofs.equality.same_longer.Statement.{statement}
 use Rattle.paths.proofs.equality.same_longer.Tie as tie
 use Rattle.paths.proofs.equality.same_longer.Reads as reads
 use Rattle.paths.proofs.equality.same_longer.Lts as lts
-use Rattle.queries.proofs.path.steps.Reads as steps-reads
 use Rattle.paths.proofs.equality.same_as_piece.Reads as same-as-piece-reads
 use Rattle.paths.proofs.equality.same_walks.Reads as same-walks-reads
+use Rattle.queries.proofs.path.steps.Reads as steps-reads
 
 steps-requires : tie.Need-steps-requires
 steps-requires c κs = search needs

@@ -1,6 +1,5 @@
 -- Made from Proof.ans by answers.py, which overwrites this file: edit Proof.ans.
 use native.Mathlib.Omega.{arith}
-use Rattle.spec_stages.specs.Paths.{apply}
 use Rattle.paths.specs.SameLaws.{apply-allowed}
 use Rattle.paths.specs.EqualLaws.{pieces-missing, pieces-other, pieces-same}
 use borrow.Author.Needs.{needs}

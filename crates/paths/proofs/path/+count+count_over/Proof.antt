@@ -33,8 +33,8 @@ use Rattle.paths.proofs.path.count_over.Reads as count-over
 use Rattle.paths.proofs.path.count_over.Kinds as count-over-kinds
 use Rattle.paths.proofs.path.+count+count_over.Lts-count_over as count-over-lts
 use Rattle.areas.proofs.area.field_end.Reads as field-end-reads
-use Rattle.queries.proofs.path.steps.Reads as steps-reads
 use Rattle.paths.proofs.path.under.Reads as under-reads
+use Rattle.queries.proofs.path.steps.Reads as steps-reads
 use Rattle.paths.proofs.path.+count+count_over.{statement}
 use Rattle.paths.proofs.path.+count+count_over.Tie.{close}
 

@@ -1,8 +1,8 @@
 -- Made from Proof.ans by answers.py, which overwrites this file: edit Proof.ans.
 use native.Mathlib.Omega.{arith}
 use borrow.Author.Needs.{needs}
-use mathlib.Core.Path.{_≡_, refl, _∙_}
-use Prim.Native.Nat.{ℕ, _+_, _*_, _-_, _≤_}
+use mathlib.Core.Path.{refl, _∙_}
+use Prim.Native.Nat.{_+_, _*_, _-_, _≤_}
 use lib.ListN.{length}
 use Rattle.format.specs.Stand.{treesBytes}
 use Rattle.queries.specs.Steps.{stepCount}
@@ -32,7 +32,7 @@ use Rattle.paths.specs.ComparedLaws.{
   compared-room,
   holds-span,
 }
-use Prim.Native.Nat.{_<_}
+use Prim.Native.Nat.{ℕ, _<_}
 use borrow.Fn.Kinds.{In}
 use borrow.Fn.PlainCycle.{Measures, is, falls, and}
 use Rattle.paths.proofs.path.matches_at.Reads as matches-at
@@ -42,9 +42,9 @@ use Rattle.paths.proofs.path.matches_over.Reads as matches-over
 use Rattle.paths.proofs.path.matches_over.Kinds as matches-over-kinds
 use Rattle.paths.proofs.path.+matches_at+matches_over.Lts-matches_over as matches-over-lts
 use Rattle.areas.proofs.area.field_end.Reads as field-end-reads
-use Rattle.queries.proofs.path.steps.Reads as steps-reads
 use Rattle.paths.proofs.path.stands_at.Reads as stands-at-reads
 use Rattle.paths.proofs.path.under.Reads as under-reads
+use Rattle.queries.proofs.path.steps.Reads as steps-reads
 use Rattle.paths.proofs.path.+matches_at+matches_over.{statement}
 use Rattle.paths.proofs.path.+matches_at+matches_over.Tie.{close}
 

@@ -1,8 +1,8 @@
 -- Made from Proof.ans by answers.py, which overwrites this file: edit Proof.ans.
 use native.Mathlib.Omega.{arith}
 use borrow.Author.Needs.{needs}
-use mathlib.Core.Path.{_≡_, refl, _∙_}
-use Prim.Native.Nat.{ℕ, _+_, _*_, _-_, _≤_}
+use mathlib.Core.Path.{refl, _∙_}
+use Prim.Native.Nat.{_+_, _*_, _-_}
 use Rattle.format.specs.Stand.{treesBytes}
 use Rattle.queries.specs.Steps.{stepCount}
 use Rattle.paths.specs.declared.path.Element.{Element}
@@ -31,7 +31,7 @@ use Rattle.paths.specs.ElementLaws.{
   element-here,
   element-next,
 }
-use Prim.Native.Nat.{_<_}
+use Prim.Native.Nat.{ℕ, _<_}
 use borrow.Fn.Kinds.{In}
 use borrow.Fn.PlainCycle.{Measures, is, falls, and}
 use Rattle.paths.proofs.path.nth.Reads as nth
@@ -41,8 +41,8 @@ use Rattle.paths.proofs.path.nth_over.Reads as nth-over
 use Rattle.paths.proofs.path.nth_over.Kinds as nth-over-kinds
 use Rattle.paths.proofs.path.+nth+nth_over.Lts-nth_over as nth-over-lts
 use Rattle.areas.proofs.area.field_end.Reads as field-end-reads
-use Rattle.queries.proofs.path.steps.Reads as steps-reads
 use Rattle.paths.proofs.path.under.Reads as under-reads
+use Rattle.queries.proofs.path.steps.Reads as steps-reads
 use Rattle.paths.proofs.path.+nth+nth_over.{statement}
 use Rattle.paths.proofs.path.+nth+nth_over.Tie.{close}
 

@@ -3,7 +3,7 @@ use native.Mathlib.Omega.{arith}
 use borrow.Author.Needs.{needs}
 use mathlib.Core.Path.{_≡_, refl, _∙_}
 use mathlib.Core.Bool.{Bool, true, false}
-use Prim.Native.Nat.{ℕ, _+_, _*_, _-_, _≤_}
+use Prim.Native.Nat.{_+_, _*_, _-_}
 use Rattle.format.specs.Stand.{treesBytes}
 use Rattle.queries.specs.Steps.{stepCount}
 use Rattle.spec_stages.specs.Paths as paths
@@ -27,7 +27,7 @@ use Rattle.paths.specs.WalkLaws.{
   present-here,
   present-next,
 }
-use Prim.Native.Nat.{_<_}
+use Prim.Native.Nat.{ℕ, _<_}
 use borrow.Fn.Kinds.{In}
 use borrow.Fn.PlainCycle.{Measures, is, falls, and}
 use Rattle.paths.proofs.path.present.Reads as present
@@ -37,8 +37,8 @@ use Rattle.paths.proofs.path.present_over.Reads as present-over
 use Rattle.paths.proofs.path.present_over.Kinds as present-over-kinds
 use Rattle.paths.proofs.path.+present+present_over.Lts-present_over as present-over-lts
 use Rattle.areas.proofs.area.field_end.Reads as field-end-reads
-use Rattle.queries.proofs.path.steps.Reads as steps-reads
 use Rattle.paths.proofs.path.under.Reads as under-reads
+use Rattle.queries.proofs.path.steps.Reads as steps-reads
 use Rattle.paths.proofs.path.+present+present_over.{statement}
 use Rattle.paths.proofs.path.+present+present_over.Tie.{close}
 

@@ -1,14 +1,14 @@
 -- Made from Proof.ans by answers.py, which overwrites this file: edit Proof.ans.
 use mathlib.Core.Path.{sym, _∙_}
-use Rattle.paths.specs.WalkLaws.{step-left, walk-inside, walk-order}
+use Rattle.paths.specs.WalkLaws.{step-left, walk-inside}
 use Rattle.paths.specs.OperandLaws.{piece-whole, piece-under}
 use borrow.Author.Needs.{needs}
 use Rattle.paths.proofs.path.piece.Statement.{statement}
 use Rattle.paths.proofs.path.piece.Tie as tie
 use Rattle.paths.proofs.path.piece.Reads as reads
 use Rattle.paths.proofs.path.piece.Lts as lts
-use Rattle.queries.proofs.path.steps.Reads as steps-reads
 use Rattle.paths.proofs.path.under.Reads as under-reads
+use Rattle.queries.proofs.path.steps.Reads as steps-reads
 
 steps-requires : tie.Need-steps-requires
 steps-requires c κs = search needs

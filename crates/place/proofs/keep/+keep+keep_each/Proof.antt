@@ -1,16 +1,16 @@
 -- Made from Proof.ans by answers.py, which overwrites this file: edit Proof.ans.
 use native.Mathlib.Omega.{arith}
 use borrow.Author.Needs.{needs}
-use mathlib.Core.Path.{_≡_, refl, sym, _∙_}
+use mathlib.Core.Path.{_≡_, refl, _∙_}
 use mathlib.Core.List.{List}
-use Prim.Native.Nat.{ℕ, _+_, _*_, _-_, _≤_}
+use Prim.Native.Nat.{ℕ, _+_, _*_, _-_}
 use lib.ListN.{length}
 use Rattle.areas.specs.declared.area.Out.{Out}
 use Rattle.format.specs.Stand.{treesBytes}
 use Rattle.format.specs.StandLaws.{trees-places}
 use Rattle.queries.specs.Steps.{stepCount}
 use Rattle.place.specs.Writers.{WriterReady}
-use Rattle.place.specs.Kept.{Keeps, KeepsEach}
+use Rattle.place.specs.Kept.{KeepsEach}
 use Rattle.place.specs.WriterLaws.{
   along-order,
   along-inside,
@@ -45,10 +45,10 @@ use Rattle.place.proofs.keep.+keep+keep_each.Lts-keep_each as keep-each
 use Rattle.areas.proofs.area.copy.Reads as copy-reads
 use Rattle.areas.proofs.area.field_end.Reads as field-end-reads
 use Rattle.format.proofs.labels.find.Reads as find-reads
-use Rattle.queries.proofs.path.step_at.Reads as step-at-reads
-use Rattle.queries.proofs.path.steps.Reads as steps-reads
 use Rattle.place.proofs.place.put_void.Reads as put-void-reads
 use Rattle.place.proofs.place.wrap.Reads as wrap-reads
+use Rattle.queries.proofs.path.step_at.Reads as step-at-reads
+use Rattle.queries.proofs.path.steps.Reads as steps-reads
 use Rattle.place.proofs.keep.+keep+keep_each.{statement}
 use Rattle.place.proofs.keep.+keep+keep_each.Tie.{close}
 

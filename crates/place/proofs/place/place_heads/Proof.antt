@@ -21,9 +21,9 @@ use Rattle.place.proofs.place.place_heads.Statement.{statement}
 use Rattle.place.proofs.place.place_heads.Tie as tie
 use Rattle.place.proofs.place.place_heads.Reads as reads
 use Rattle.place.proofs.place.place_heads.Lts as lts
+use Rattle.place.proofs.place.wrap.Reads as wrap-reads
 use Rattle.queries.proofs.path.step_at.Reads as step-at-reads
 use Rattle.queries.proofs.path.steps.Reads as steps-reads
-use Rattle.place.proofs.place.wrap.Reads as wrap-reads
 
 abbrev Inv-loop : tie.InvT-loop
 Inv-loop w₀ q p e d i₀ out₀ w i out =

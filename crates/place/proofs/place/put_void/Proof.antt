@@ -1,6 +1,4 @@
 -- Made from Proof.ans by answers.py, which overwrites this file: edit Proof.ans.
-use mathlib.Core.Path.{subst, sym}
-use Rattle.areas.specs.Area.{Wrote}
 use Rattle.place.specs.PlaceLaws.{void-wrote}
 use borrow.Author.Needs.{needs}
 use Rattle.place.proofs.place.put_void.Statement.{statement}

@@ -5,9 +5,9 @@ use Rattle.project.proofs.project.write_item.Statement.{statement}
 use Rattle.project.proofs.project.write_item.Tie as tie
 use Rattle.project.proofs.project.write_item.Reads as reads
 use Rattle.project.proofs.project.write_item.Lts as lts
+use Rattle.place.proofs.keep.keep.Reads as keep-reads
 use Rattle.project.proofs.project.write_place.Reads as write-place-reads
 use Rattle.queries.proofs.item.item_at.Reads as item-at-reads
-use Rattle.place.proofs.keep.keep.Reads as keep-reads
 
 item-at-requires : tie.Need-item-at-requires
 item-at-requires c κs = search needs

@@ -10,8 +10,8 @@ use Rattle.project.proofs.project.write_place.Tie as tie
 use Rattle.project.proofs.project.write_place.Reads as reads
 use Rattle.project.proofs.project.write_place.Lts as lts
 use Rattle.build.proofs.part.place_value.Reads as place-value-reads
-use Rattle.queries.proofs.path.steps.Reads as steps-reads
 use Rattle.data.proofs.data.write_data.Reads as write-data-reads
+use Rattle.queries.proofs.path.steps.Reads as steps-reads
 
 steps-requires : tie.Need-steps-requires
 steps-requires c κs = search needs

@@ -2,10 +2,9 @@
 use borrow.Author.Needs.{needs}
 use denote.Ref.{now}
 use native.Mathlib.Omega.{arith}
-use mathlib.Core.Path.{_≡_, refl, sym, _∙_, ap}
+use mathlib.Core.Path.{_≡_, sym, _∙_, ap}
 use mathlib.Core.Logic.{⊎-elim, inl, inr}
-use Prim.Native.Nat.{ℕ, _≤_, _<_, _+_, _*_, _-_}
-use lib.ListN.{length}
+use Prim.Native.Nat.{ℕ, _≤_, _+_, _*_, _-_}
 use lib.Seq.{slice, length-slice}
 use lib.Dec.{leb}
 use Rattle.spec_trees.specs.Limits.{nestMax}
@@ -15,7 +14,6 @@ use Rattle.queries.specs.declared.table.Child.{Child}
 use Rattle.queries.specs.Table.{allowed}
 use Rattle.queries.specs.Accept.{fieldOk, contentOk}
 use Rattle.queries.specs.TableLaws.{
-  Outside,
   criterion-field,
   data-field,
   criterion-deep,
@@ -36,6 +34,7 @@ use Rattle.queries.specs.CheckLaws.{
   child-passes,
   child-fails,
 }
+use Prim.Native.Nat.{_<_}
 use borrow.Fn.Kinds.{In}
 use borrow.Fn.PlainCycle.{Measures, is, falls, and}
 use Rattle.queries.proofs.check.check_child.Reads as check-child
@@ -53,9 +52,9 @@ use Rattle.queries.proofs.check.+check_child+check_children+check_crite
 use Rattle.queries.proofs.check.check_field.Reads as check-field
 use Rattle.queries.proofs.check.check_field.Kinds as check-field-kinds
 use Rattle.queries.proofs.check.+check_child+check_children+check_criterion+check_data+check_field.Lts-check_field as check-field-lts
+use Rattle.areas.proofs.number.wide.Reads as wide-reads
 use Rattle.format.proofs.check.check_array_field.Reads as check-array-field-reads
 use Rattle.format.proofs.head.head_at.Reads as head-at-reads
-use Rattle.areas.proofs.number.wide.Reads as wide-reads
 use Rattle.queries.proofs.check.check_divisor.Reads as check-divisor-reads
 use Rattle.queries.proofs.check.check_path.Reads as check-path-reads
 use Rattle.queries.proofs.table.allows.Reads as allows-reads

@@ -1,9 +1,8 @@
 -- Made from Proof.ans by answers.py, which overwrites this file: edit Proof.ans.
 use denote.Ref.{now}
 use native.Mathlib.Omega.{arith}
-use mathlib.Core.Path.{_≡_, sym}
-use Prim.Native.Nat.{ℕ, _+_, _*_}
-use lib.ListN.{getD}
+use mathlib.Core.Path.{sym}
+use Prim.Native.Nat.{_+_, _*_}
 use Rattle.queries.specs.CheckLaws.{divisor-size, divisor-low, divisor-high}
 use borrow.Author.Needs.{needs}
 use Rattle.queries.proofs.check.check_divisor.Statement.{statement}

@@ -2,12 +2,11 @@
 use borrow.Author.Needs.{needs}
 use denote.Ref.{now}
 use native.Mathlib.Omega.{arith}
-use mathlib.Core.Path.{_≡_, refl, sym, _∙_, ap}
-use Prim.Native.Nat.{ℕ, _+_, _-_, _≤_, _<_}
+use mathlib.Core.Path.{_≡_, sym, _∙_, ap}
+use Prim.Native.Nat.{_+_, _-_, _≤_}
 use lib.Seq.{slice}
 use Rattle.spec_trees.specs.Lists.{all}
 use Rattle.spec_trees.specs.Tree.{isLabel}
-use Rattle.queries.specs.Steps.{stepCount}
 use Rattle.queries.specs.CheckLaws.{
   path-long,
   path-short,

@@ -4,7 +4,12 @@ use native.Mathlib.Omega.{arith}
 use mathlib.Core.Path.{sym, _∙_}
 use lib.ListN.{length}
 use Rattle.format.specs.HeadLaws.{span-found}
-use Rattle.queries.specs.CheckLaws.{query-over, query-accepted, query-malformed, query-nothing}
+use Rattle.queries.specs.CheckLaws.{
+  query-over,
+  query-accepted,
+  query-malformed,
+  query-nothing,
+}
 use borrow.Author.Needs.{needs}
 use Rattle.queries.proofs.check.check_query.Statement.{statement}
 use Rattle.queries.proofs.check.check_query.Tie as tie

@@ -41,12 +41,12 @@ use Rattle.stream.proofs.feed.feed_unwound.Reads as feed-unwound
 use Rattle.stream.proofs.feed.feed_unwound.Kinds as feed-unwound-kinds
 use Rattle.stream.proofs.feed.+feed+feed_each+feed_elements+feed_looked+feed_matched+feed_outcomes+feed_projected+feed_unwound.Lts-feed_unwound as feed-unwound-lts
 use Rattle.areas.proofs.area.field_end.Reads as field-end-reads
+use Rattle.criteria.proofs.criteria.holds.Reads as holds-reads
 use Rattle.lookup.proofs.lookup.lookup.Reads as lookup-reads
 use Rattle.project.proofs.project.project.Reads as project-reads
 use Rattle.queries.proofs.path.step_at.Reads as step-at-reads
 use Rattle.queries.proofs.path.steps.Reads as steps-reads
 use Rattle.queries.proofs.stage.stage_at.Reads as stage-at-reads
-use Rattle.criteria.proofs.criteria.holds.Reads as holds-reads
 use Rattle.stream.proofs.collector.collect.Reads as collect-reads
 use Rattle.stream.proofs.collector.is_large.Reads as is-large-reads
 use Rattle.unwind.proofs.unwind.find_entry.Reads as find-entry-reads

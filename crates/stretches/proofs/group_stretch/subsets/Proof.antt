@@ -16,7 +16,8 @@ use Rattle.areas.proofs.area.field_end.Reads as field-end-reads
 
 abbrev Inv-loop : tie.InvT-loop
 Inv-loop q g h n₀ at₀ n at =
-    HoldsOk (WeightFits n) pairsBytes q at h × ((c : ℕ) → SubsetsIs q at h c → SubsetsIs q g h (n * c))
+    HoldsOk (WeightFits n) pairsBytes q at h ×
+    ((c : ℕ) → SubsetsIs q at h c → SubsetsIs q g h (n * c))
 
 abbrev μ-loop : tie.MeasureT-loop
 μ-loop q g h n₀ at₀ n at = h - at

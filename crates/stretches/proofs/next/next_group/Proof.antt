@@ -1,7 +1,7 @@
 -- Made from Proof.ans by answers.py, which overwrites this file: edit Proof.ans.
 use borrow.Author.Needs.{needs}
-use mathlib.Core.Path.{_≡_, refl, _∙_, ap}
-use Prim.Native.Nat.{_≤_, _-_}
+use mathlib.Core.Path.{refl}
+use Prim.Native.Nat.{_-_}
 use native.Mathlib.Omega.{arith}
 use Rattle.format.specs.Stand.{Holds}
 use Rattle.queries.specs.Places.{stagesBytes}

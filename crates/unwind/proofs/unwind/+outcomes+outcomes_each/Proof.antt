@@ -1,7 +1,7 @@
 -- Made from Proof.ans by answers.py, which overwrites this file: edit Proof.ans.
 use native.Mathlib.Omega.{arith}
 use borrow.Author.Needs.{needs}
-use mathlib.Core.Path.{_≡_, refl, sym, subst, _∙_}
+use mathlib.Core.Path.{refl, sym, _∙_}
 use Prim.Native.Nat.{ℕ, _+_, _*_, _-_, _≤_}
 use native.Mathlib.Nat.{add-assoc, add-zero, zero-add}
 use Rattle.format.specs.Stand.{treesBytes, Holds}

@@ -1,7 +1,7 @@
 -- Made from Proof.ans by answers.py, which overwrites this file: edit Proof.ans.
 use native.Mathlib.Omega.{arith}
-use mathlib.Core.Path.{_≡_, refl, sym, _∙_}
-use Prim.Native.Nat.{ℕ, _+_, _-_, _≤_}
+use mathlib.Core.Path.{refl, sym, _∙_}
+use Prim.Native.Nat.{_-_}
 use Rattle.format.specs.declared.labels.Found.{Found}
 use Rattle.format.specs.Stand.{labelsBytes, Holds}
 use Rattle.format.specs.StandLaws.{labels-places, holds-others}
