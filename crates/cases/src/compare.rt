@@ -1,16 +1,16 @@
-//! The call of a case, and whether all that is seen of it is as expected. The work area is full of 170 before a run, and
-//! the result area full of 187, so that a byte that changed is seen.
-use crate::parts::alike;
-use crate::parts::behind;
-use crate::parts::each_is;
-use crate::parts::front;
-use crate::parts::part;
+//! The call of a case, and whether all that is seen of it is as expected. The work area is full of 170 before a run,
+//! and the result area full of 187, so that a byte that changed is seen.
 use engine::answer::check_number;
 use engine::answer::length;
 use engine::answer::number;
 use engine::run::run;
 use format::check::check_array;
 use queries::check::check_query;
+use row_text::parts::alike;
+use row_text::parts::behind;
+use row_text::parts::each_is;
+use row_text::parts::front;
+use row_text::parts::part;
 use spec_run::answer::Answer;
 use spec_run::answer::Refusal;
 

@@ -1,4 +1,3 @@
 //! What the test programs share: a case, its call of the engine, and whether all that is seen of it is as expected.
 pub mod compare;
-pub mod parts;
 pub mod report;

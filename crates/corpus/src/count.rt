@@ -36,8 +36,8 @@ fn end(t: Turn, case: u64) {
     }
 }
 
-/// Runs every case and reports the first that differs. A proved loop has to end, and nothing says that the input does, so
-/// the loop ends after a number of cases that no run reaches.
+/// Runs every case and reports the first that differs. A proved loop has to end, and nothing says that the input
+/// does, so the loop ends after a number of cases that no run reaches.
 pub fn count() {
     let mut cases = 0u64;
     let mut agree = 0u64;

@@ -1,6 +1,6 @@
 //! Whether a tree meets a criterion, both read where they stand. The functions call each other in a cycle, as
 //! criteria hold criteria. `left` is how deep criteria may still nest; it falls where one is entered, so that an
-//! evaluation ends and its depth is bounded. Of `<'a>`: see `equality`.
+//! evaluation ends and its depth is bounded. Of `<'a>`: see crate `paths`'s `equality`.
 ghost use mathlib.Core.Bool.{_&&_, _||_};
 ghost use Rattle.criteria.specs.Meets.{Evaluable, EvaluableTwo, Meets, MeetsTwo};
 use paths::equality::path_equals_literal;

@@ -20,7 +20,7 @@ use Rattle.spec_stages.specs.Stages.{going, stages}
 use Rattle.spec_run.specs.declared.answer.Refusal.{Refusal}
 use Rattle.spec_run.specs.declared.answer.Refusal.the-variants.{WorkShort, QueryLong, QueryMalformed, InputLong, InputMalformed, JoinedLong, JoinedMalformed}
 use Rattle.spec_run.specs.Refusal.{keepsResult}
-use Rattle.spec_run.specs.Run.{Call, Verdict, refused, reading, final, verdict, checkNumber}
+use Rattle.spec_run.specs.Run.{Call, Verdict, refused, reading, final, verdictOf, verdict, checkNumber}
 use Rattle.spec_run.specs.RunLaws.{Reads}
 use Rattle.engine.specs.declared.check.CallCheck.{CallCheck}
 use Rattle.engine.specs.declared.check.CallCheck.the-variants.{Passed, Refused}
@@ -111,7 +111,7 @@ last-refused overlong r s t f kr ks e = early-is kr e
 last-refused malformed r s t f kr ks e = early-is ks e
 
 pub refused-early : (c : Call) (r : Refusal) → checkOfCall c ≡ Refused r → Early (verdict c) r
-unfolding callCheck verdict keepsResult
+unfolding callCheck verdict verdictOf keepsResult
 refused-early c r e = go (leb workMin (length (c .work))) e
   where
     b : CallCheck

@@ -1,6 +1,6 @@
 //! Where a class of a group begins: at a tree of its subset that no tree before it is like. The array's trees are
 //! asked one after another, and each looks back over those before it: no list of keys is kept. Of `<'a>`: see
-//! reading's `equality`.
+//! crate `paths`'s `equality`.
 ghost use Rattle.group.specs.First.{BeginsReady, UnlikeIs, BeginsIs};
 use crate::key::same_key;
 use crate::key::subset;

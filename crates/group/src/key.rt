@@ -1,6 +1,6 @@
 //! The key of a tree in a group: which grouping sources are present, and whether two trees have equal source values.
 //! The pairs stand in q from g to ge, one behind another, and are read there for each tree. Nothing is copied.
-//! Of `<'a>`: see `equality`.
+//! Of `<'a>`: see crate `paths`'s `equality`.
 ghost use mathlib.Core.Path.{_≡_};
 ghost use mathlib.Core.Bool.{cond};
 ghost use Prim.Native.Nat.{_≤_};

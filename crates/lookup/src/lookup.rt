@@ -1,5 +1,5 @@
 //! Lookup: a tree's merge with the place of all joined trees that match it, in the place of the tree. The joined
-//! trees are copied once, behind the room for the heads of the place. Of `<'a>`: see crate `reading`'s `equality`.
+//! trees are copied once, behind the room for the heads of the place. Of `<'a>`: see crate `paths`'s `equality`.
 ghost use Rattle.spec_trees.specs.Limits.{depthMax};
 ghost use Rattle.spec_trees.specs.Bytes.{treeBytes};
 ghost use Rattle.spec_trees.specs.Within.{Allowed, AllowedA};

@@ -1,5 +1,5 @@
 //! The test of a lookup: which joined trees match a tree. It is one definition, `matches`, and one function.
-//! Of `<'a>`: see `equality`.
+//! Of `<'a>`: see crate `paths`'s `equality`.
 ghost use Rattle.spec_trees.specs.Bytes.{treeBytes};
 ghost use Rattle.paths.specs.Walk.{Walk};
 ghost use Rattle.lookup.specs.Matching.{JoinsIs};

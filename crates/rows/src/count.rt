@@ -1,14 +1,14 @@
 //! The rows of the text, one after the other.
 ghost use Prim.Native.Nat.{_≤_};
-use crate::lines::Kind;
-use crate::lines::find_line;
-use crate::lines::next_line;
 use crate::row::row_name;
 use crate::row::row_verdict;
 use cases::compare::Verdict;
-use cases::parts::part;
 use cases::report::say_total;
 use cases::report::say_verdict;
+use row_text::lines::Kind;
+use row_text::lines::find_line;
+use row_text::lines::next_line;
+use row_text::parts::part;
 
 /// The line of a row.
 fn say_row(row: &[u8], number: u64, v: Verdict) {
@@ -30,8 +30,8 @@ fn counted(row: &[u8], number: u64, v: Verdict) -> u64
     if let Verdict::Agrees = v { 1 } else { 0 }
 }
 
-/// Runs every row and reports. The first line that says something begins the first row, whatever it says, and a row goes up
-/// to the line that begins the next: so every line belongs to a row, and every row counts.
+/// Runs every row and reports. The first line that says something begins the first row, whatever it says, and a row
+/// goes up to the line that begins the next: so every line belongs to a row, and every row counts.
 pub fn count(text: &[u8]) {
     let mut rows = 0u64;
     let mut agree = 0u64;

@@ -1,9 +1,6 @@
-//! Runs the engine on each row of a text, which stands on standard input, and writes its name with the verdict, and at the
-//! end how many rows agree. The head of the text says how a row is written.
+//! Runs the engine on each row of a text, which stands on standard input, and writes its name with the verdict, and
+//! at the end how many rows agree. The head of the text says how a row is written.
 mod count;
-mod lines;
-mod notation;
-mod place;
 mod row;
 
 use crate::count::count;

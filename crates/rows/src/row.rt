@@ -1,20 +1,20 @@
 //! A row: its name, its call with the arguments, and what is expected.
-use crate::lines::begins;
-use crate::lines::line_end;
-use crate::lines::next_line;
-use crate::place::Place;
-use crate::place::argument;
-use crate::place::is_read;
-use crate::place::line_feed;
-use crate::place::number;
-use crate::place::word;
 use cases::compare::Case;
 use cases::compare::Check;
 use cases::compare::Verdict;
 use cases::compare::compare;
 use cases::compare::compare_check;
-use cases::parts::front;
-use cases::parts::part;
+use row_text::lines::begins;
+use row_text::lines::line_end;
+use row_text::lines::next_line;
+use row_text::parts::front;
+use row_text::parts::part;
+use row_text::place::Place;
+use row_text::place::argument;
+use row_text::place::is_read;
+use row_text::place::line_feed;
+use row_text::place::number;
+use row_text::place::word;
 
 /// Room for the bytes of a row: those of the longest, where each argument is just past its limit, are 36,867.
 const BYTES: usize = 40960;

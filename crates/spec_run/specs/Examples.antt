@@ -2,7 +2,7 @@
 use mathlib.Core.Path.{_≡_, refl}
 use mathlib.Core.List.{List, [], _∷_, _++_}
 use Prim.Native.Nat.{ℕ}
-use lib.ListN.{replicate}
+use lib.ListN.{length, replicate}
 use Rattle.spec_trees.specs.Tree.{Tree, node, text, bare, bareVoid}
 use Rattle.spec_trees.specs.Bytes.{arrayBytes}
 use Rattle.spec_trees.specs.Examples.{#, ⟨_⟩, _⇒_⨾_}
@@ -10,24 +10,31 @@ use Rattle.spec_queries.specs.Query.{always, negated, match, unwind, group, loo
 use Rattle.spec_queries.specs.Bytes.{queryBytes}
 use Rattle.spec_stages.specs.Examples.{ran}
 use Rattle.spec_run.specs.Refusal.{keepsResult}
-use Rattle.spec_run.specs.Run.{Call, call, Outcome, reading, final, verdict, zeros, workAfter, resultAfter, numberIn, lengthIn, outcomeOf, plainRun, checkNumber, checkedQuery, checkedArray}
+use Rattle.spec_run.specs.Run.{reading, final, verdictOf, verdict, zeros, workAfter, resultAfter, numberIn, lengthIn, outcomeOf, plainRun, checkNumber, checkedQuery, checkedArray}
 use Rattle.spec_run.specs.Program.{headed, digit, hex, decimal, refusedText, shown, answered, program}
 
--- The plain run. Under this name all definitions of this crate and of those below compute.
-unfoldable abbrev pub answer : Call → Outcome
-unfolding ran keepsResult reading final verdict zeros workAfter resultAfter numberIn lengthIn outcomeOf plainRun checkNumber checkedQuery checkedArray headed digit hex decimal refusedText shown answered program
-answer c = plainRun c
+-- what a call is lent, of the work area only its length
+pub record Lent : Type 0 where
+  pub query : List ℕ
+  pub input : List ℕ
+  pub joined : List ℕ
+  pub work : ℕ
+  pub result : List ℕ
 
--- a call with a work area of so many bytes
-abbrev lent : List ℕ → List ℕ → List ℕ → ℕ → List ℕ → Call
-lent q i j n r = call q i j (replicate n 7) r
+abbrev lent : List ℕ → List ℕ → List ℕ → ℕ → List ℕ → Lent
+lent q i j n r = record { query = q; input = i; joined = j; work = n; result = r }
 
--- number, length, result area
+-- What the plain run tells of it: number, length, result area. Under this name all definitions of this crate and of those
+-- below compute.
+unfoldable abbrev pub told : Lent → ℕ × ℕ × List ℕ
+unfolding ran keepsResult reading final verdictOf verdict zeros workAfter resultAfter numberIn lengthIn outcomeOf plainRun checkNumber checkedQuery checkedArray headed digit hex decimal refusedText shown answered program
+told c =
+    let x = verdictOf (c .query) (c .input) (c .joined) (c .work) (length (c .result)) in
+    (numberIn x, lengthIn x, resultAfter (c .result) x)
+
+-- and what is expected
 abbrev Row : Type 0
-Row = Call × (ℕ × ℕ × List ℕ)
-
-abbrev told : Call → ℕ × ℕ × List ℕ
-told c = let o = plainRun c in (o .number, o .length, o .result)
+Row = Lent × (ℕ × ℕ × List ℕ)
 
 -- each row is what the plain run tells
 abbrev AllHold : List Row → Type 0
@@ -96,7 +103,7 @@ rows =
     ∷ []
 
 pub rows-hold : AllHold rows
-unfolding answer
+unfolding told
 rows-hold =
     (refl, (refl, (refl, (refl, (refl, (refl, (refl, (refl, (refl, (refl, (refl, (refl, (refl, (refl, (refl, (refl, tt))))))))))))))))
 
@@ -105,23 +112,23 @@ abbrev texts : ℕ → Tree
 texts n = node (text (replicate n 7)) bare
 
 abbrev numbered : List Tree → ℕ
-numbered ts = answer (lent no-stage (arrayBytes ts) no-tree 65536 (replicate 16384 0)) .number
+numbered ts = told (lent no-stage (arrayBytes ts) no-tree 65536 (replicate 16384 0)) .0
 
 -- label 1 over 338 bare voids and a text: a tree of 2,048 bytes, and one byte more
 pub tree-limit : (numbered (⟨ 1 ⇒ replicate 338 bareVoid ++ texts 1 ∷ [] ⨾ bare ⟩ ∷ []) ≡ 0) × (numbered (⟨ 1 ⇒ replicate 338 bareVoid ++ texts 2 ∷ [] ⨾ bare ⟩ ∷ []) ≡ 5)
-unfolding answer
+unfolding told
 tree-limit = (refl, refl)
 
 -- 2,729 bare voids and a text: an array of 16,384 bytes, and one byte more
 pub array-limit : (numbered (replicate 2729 bareVoid ++ texts 1 ∷ []) ≡ 0) × (numbered (replicate 2729 bareVoid ++ texts 2 ∷ []) ≡ 4)
-unfolding answer
+unfolding told
 array-limit = (refl, refl)
 
 -- ---- the program: the document's example; nothing on standard input is refused as a query
 pub program-example : program (16 ∷ 0 ∷ 0 ∷ 1 ∷ 0 ∷ 0 ∷ 1 ∷ 0 ∷ 0 ∷ []) ≡ 48 ∷ 49 ∷ 48 ∷ 48 ∷ 48 ∷ 48 ∷ 10 ∷ []
-unfolding answer
+unfolding told
 program-example = refl
 
 pub program-empty : program [] ≡ 114 ∷ 101 ∷ 102 ∷ 117 ∷ 115 ∷ 101 ∷ 100 ∷ 32 ∷ 51 ∷ 10 ∷ []
-unfolding answer
+unfolding told
 program-empty = refl

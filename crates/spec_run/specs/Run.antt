@@ -51,18 +51,22 @@ final room long = refused GroupLong
 final room (going ts) =
     cond (leb (arraySize ts) arrayMax && leb (arraySize ts) room) (gives (arrayBytes ts)) (refused ResultLong)
 
--- tests 1 to 7, then the stages in the query's order over the input's list of trees; of the work area only its length
--- counts
-unfoldable pub verdict : Call → Verdict
-verdict c =
-    cond (leb workMin (length (c .work)))
+-- query, input, joined array, the lengths of the work and of the result area: tests 1 to 7, then the stages in the
+-- query's order over the input's list of trees
+unfoldable pub verdictOf : List ℕ → List ℕ → List ℕ → ℕ → ℕ → Verdict
+verdictOf q i j work room =
+    cond (leb workMin work)
     (
-    reading (readQuery (c .query)) QueryLong QueryMalformed λ ss.
-    reading (readArray (c .input)) InputLong InputMalformed λ ts.
-    reading (readArray (c .joined)) JoinedLong JoinedMalformed λ us.
-    final (length (c .result)) (stages us ss (going ts))
+    reading (readQuery q) QueryLong QueryMalformed λ ss.
+    reading (readArray i) InputLong InputMalformed λ ts.
+    reading (readArray j) JoinedLong JoinedMalformed λ us.
+    final room (stages us ss (going ts))
     )
     (refused WorkShort)
+
+-- of the work area only its length counts
+unfoldable pub verdict : Call → Verdict
+verdict c = verdictOf (c .query) (c .input) (c .joined) (length (c .work)) (length (c .result))
 
 -- ---- what is left in the two areas
 unfoldable pub zeros : List ℕ → List ℕ

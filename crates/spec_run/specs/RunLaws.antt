@@ -26,7 +26,7 @@ use Rattle.spec_stages.specs.KeepLaws.{stages-allowed}
 use Rattle.spec_run.specs.declared.answer.Refusal.{Refusal}
 use Rattle.spec_run.specs.declared.answer.Refusal.the-variants.{WorkShort, QueryLong, QueryMalformed, InputLong, InputMalformed, JoinedLong, JoinedMalformed, TreeLarge, GroupLong, ResultLong}
 use Rattle.spec_run.specs.Refusal.{numberOf, keepsResult}
-use Rattle.spec_run.specs.Run.{Call, Outcome, Verdict, gives, refused, reading, final, verdict, zeros, workAfter, numberIn, lengthIn, resultAfter, outcomeOf, plainRun, resultBytes}
+use Rattle.spec_run.specs.Run.{Call, Outcome, Verdict, gives, refused, reading, final, verdictOf, verdict, zeros, workAfter, numberIn, lengthIn, resultAfter, outcomeOf, plainRun, resultBytes}
 
 -- ---- the tests passed: what the lent pieces hold
 pub record Reads (c : Call) (ss : List Stage) (ts us : List Tree) : Type 0 where
@@ -37,7 +37,7 @@ pub record Reads (c : Call) (ss : List Stage) (ts us : List Tree) : Type 0 where
 
 -- the plain run goes on to the stages
 pub reads-verdict : (c : Call) (ss : List Stage) (ts us : List Tree) → Reads c ss ts us → verdict c ≡ final (length (c .result)) (stages us ss (going ts))
-unfolding verdict reading
+unfolding verdict verdictOf reading
 reads-verdict c ss ts us r = rw (leb-yes workMin (length (c .work)) (r .enough), r .query, r .input, r .joined) refl
 
 -- ---- an accepted run: what it has read, and the list that it gives
@@ -76,7 +76,7 @@ final-out room (going ts) b e =
 
 verdict-out : (c : Call) (b : List ℕ) → verdict c ≡ gives b
     → (ss : List Stage) × (ts : List Tree) × (us : List Tree) × (fs : List Tree) × Gives c ss ts us fs
-unfolding verdict
+unfolding verdict verdictOf
 verdict-out c b e =
     let (w, e0) = cond-out (leb workMin (length (c .work))) _ WorkShort b e in
     let (ss, a, e1) = reading-out (readQuery (c .query)) QueryLong QueryMalformed _ b e0 in
@@ -185,7 +185,7 @@ result-length c = go (verdict c) (length-most c .area)
 
 -- ---- the work area: zero after all outcomes but 1, and as it was after 1
 verdict-short : (c : Call) → length (c .work) < workMin → verdict c ≡ refused WorkShort
-unfolding verdict
+unfolding verdict verdictOf
 verdict-short c l = rw (leb-no workMin (length (c .work)) l) refl
 
 pub work-one : (c : Call) → length (c .work) < workMin → (plainRun c .number ≡ 1) × (plainRun c .work ≡ c .work)

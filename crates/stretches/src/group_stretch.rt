@@ -1,7 +1,7 @@
 //! A group and the stages behind it: the classes are found subset by subset, one tree of the array after another, and
 //! the tree of each goes on as soon as it is built. No list of classes is kept. The array's trees stand in the first
 //! n bytes of the work area. The tree of a class is built behind the 21,844 bytes that an array may take with what is
-//! reserved behind it; there the tail begins that is lent to the stages. Of `<'a>`: see reading's `equality`.
+//! reserved behind it; there the tail begins that is lent to the stages. Of `<'a>`: see crate `paths`'s `equality`.
 ghost use Rattle.queries.specs.Places.{pairsBytes, HoldsOk};
 ghost use Rattle.group.specs.Keys.{FewPairs};
 ghost use Rattle.stretches.specs.Stretch.{GroupReady, GroupPost};

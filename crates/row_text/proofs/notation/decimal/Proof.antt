@@ -1,0 +1,59 @@
+-- Made from Proof.ans by answers.py, which overwrites this file: edit Proof.ans.
+use borrow.Author.Needs.{needs}
+use Prim.Native.Nat.{_≤_, _-_}
+use lib.ListN.{length}
+use Rattle.row_text.proofs.notation.decimal.Statement.{statement}
+use Rattle.row_text.proofs.notation.decimal.Tie as tie
+use Rattle.row_text.proofs.notation.decimal.Reads as reads
+use Rattle.row_text.proofs.notation.decimal.Lts as lts
+use Rattle.row_text.proofs.notation.digit.Reads as digit-reads
+use Rattle.row_text.proofs.notation.longer.Reads as longer-reads
+
+abbrev Inv-loop : tie.InvT-loop
+Inv-loop t from value₀ at₀ value at = from ≤ at
+
+abbrev μ-loop : tie.MeasureT-loop
+μ-loop t from value₀ at₀ value at = length t - at
+
+loop-holds : tie.Need-loop-holds Inv-loop μ-loop
+loop-holds c = search needs
+
+shared-slice-read-digit : tie.Need-shared-slice-read-digit Inv-loop μ-loop
+shared-slice-read-digit c = search needs
+
+digit-requires : tie.Need-digit-requires Inv-loop μ-loop
+digit-requires c κs = search needs
+
+returns : tie.Need-returns Inv-loop μ-loop
+returns c = search needs
+
+longer-requires : tie.Need-longer-requires Inv-loop μ-loop
+longer-requires c κs = search needs
+
+add-at : tie.Need-add-at Inv-loop μ-loop
+add-at c = search needs
+
+loop-less : tie.Need-loop-less Inv-loop μ-loop
+loop-less c = search needs
+
+loop-again : tie.Need-loop-again Inv-loop μ-loop
+loop-again c = search needs
+
+returns-2 : tie.Need-returns-2 Inv-loop μ-loop
+returns-2 c = search needs
+
+pub decimal-spec : {M : Type 1} → statement M
+decimal-spec =
+    tie.close
+    (tie.spec
+    Inv-loop
+    μ-loop
+    loop-holds
+    shared-slice-read-digit
+    digit-requires
+    returns
+    longer-requires
+    add-at
+    loop-less
+    loop-again
+    returns-2)
