@@ -1,7 +1,7 @@
 -- Every query that the rules allow has exactly one byte form, which is accepted; all other bytes are refused.
-use mathlib.Core.Path.{_≡_, refl, sym, ap, _∙_}
+use mathlib.Core.Path.{_≡_, sym, ap, _∙_}
 use mathlib.Core.List.{List}
-use mathlib.Core.Option.{some, none, Option}
+use mathlib.Core.Option.{some}
 use mathlib.Core.Logic.{_↔_, inl, inr}
 use Prim.Native.Nat.{ℕ, _≤_, _<_}
 use native.Mathlib.Omega.{arith}
@@ -15,7 +15,7 @@ use Rattle.spec_trees.specs.Readers.{inside, one, two, many, chosen, among, tag
 use Rattle.spec_trees.specs.Within.{AllBytes}
 use Rattle.spec_trees.specs.OptionLaws.{leb-yes, eqb-same, only-some}
 use Rattle.spec_trees.specs.FieldLaws.{bytes-one}
-use Rattle.spec_trees.specs.ReaderLaws.{Law, field-eq, OneOf, among-some, tagged-some, one-back, one-form, two-back, two-form, three-back, three-form, many-back, many-form, tested-only, tested-overlong, tested-malformed}
+use Rattle.spec_trees.specs.ReaderLaws.{Law, field-eq, OneOf, among-some, tagged-some, one-back, one-form, two-back, two-form, three-back, three-form, many-back, many-form, tested-only, tested-overlong, malformed-form}
 use Rattle.spec_queries.specs.Query.{Item, keep, place, Stage, match, unwind, project, group, lookup}
 use Rattle.spec_queries.specs.Bytes.{itemF, pairF, pairsF, stageF, queryF, queryBytes}
 use Rattle.spec_queries.specs.Decode.{pathR, pathR⁺, itemTable, itemR, pairOf, pairR, pairsR, stageTable, stageR, queryR, decodeQuery, readQuery}
@@ -116,14 +116,4 @@ query-overlong b = tested-overlong queryMax b (decodeQuery b)
 -- malformed: short enough, and not the byte form of any query that the rules allow
 pub query-malformed : (b : List ℕ) → AllBytes b → (readQuery b ≡ malformed) ↔ ((length b ≤ queryMax) × ((ss : List Stage) → OkQ ss → queryBytes ss ≡ b → ⊥))
 unfolding readQuery
-query-malformed b h = (
-  λ e. let p = tested-malformed queryMax b (decodeQuery b) .0 e in (p .0, λ ss o f. none-some ss (sym (p .1) ∙ ap decodeQuery (sym f) ∙ query-back ss o)),
-  λ p. tested-malformed queryMax b (decodeQuery b) .1 (p .0, nothing (decodeQuery b) refl (p .1)),
-)
-  where
-    none-some : (ss : List Stage) → none ≡ some ss → ⊥
-    none-some ss e = let z : _≡_ {A = ℕ} 0 1 = cc in omega arith
-
-    nothing : (x : Option (List Stage)) → decodeQuery b ≡ x → ((ss : List Stage) → OkQ ss → queryBytes ss ≡ b → ⊥) → decodeQuery b ≡ none
-    nothing none e k = e
-    nothing (some ss) e k = let p = query-only b ss h e in absurd (k ss (p .1) (p .0))
+query-malformed b h = malformed-form queryMax b (decodeQuery b) queryBytes OkQ (query-form b h)

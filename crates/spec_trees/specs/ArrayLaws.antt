@@ -2,7 +2,7 @@
 use mathlib.Core.Path.{_≡_, refl, sym, ap, ap₂, _∙_}
 use mathlib.Core.List.{List, [], _∷_}
 use mathlib.Core.Bool.{Bool, true, false, cond}
-use mathlib.Core.Option.{some, none, Option}
+use mathlib.Core.Option.{some}
 use mathlib.Core.Logic.{_↔_, inl, inr}
 use Prim.Native.Nat.{ℕ, zero, suc, _+_, _^_, _≤_, _<_}
 use native.Mathlib.Nat.{le-of-suc-le-suc, not-suc-le-zero}
@@ -20,7 +20,7 @@ use Rattle.spec_trees.specs.Decode.{signed, bit, rootTable, rootR, array
 use Rattle.spec_trees.specs.Within.{AllBytes, OkR, Ok, OkA, OkL, Allowed, AllowedA, Within}
 use Rattle.spec_trees.specs.OptionLaws.{T-true, leb-yes, ltb-yes, only-some, map-some, bind-some}
 use Rattle.spec_trees.specs.FieldLaws.{bytes-one, fields-bytes, BytesF, parts}
-use Rattle.spec_trees.specs.ReaderLaws.{Law, field-eq, OneOf, among-some, tagged-some, emptied-some, one-back, one-form, all-back, all-form, tested-only, tested-overlong, tested-malformed}
+use Rattle.spec_trees.specs.ReaderLaws.{Law, field-eq, OneOf, among-some, tagged-some, emptied-some, one-back, one-form, all-back, all-form, tested-only, tested-overlong, malformed-form}
 use Rattle.spec_trees.specs.NumberLaws.{length-big, big-back, big-form, big-lt, signed-back, signed-form, pattern-lt}
 use Rattle.spec_trees.specs.SizeLaws.{trees-list, list-trees, length-treeF, length-array, treeFs-map}
 
@@ -230,14 +230,4 @@ array-overlong b = tested-overlong arrayMax b (decodeArray b)
 -- malformed: short enough, and not the byte form of any array within the limits
 pub array-malformed : (b : List ℕ) → AllBytes b → (readArray b ≡ malformed) ↔ ((length b ≤ arrayMax) × ((ts : List Tree) → Within ts → arrayBytes ts ≡ b → ⊥))
 unfolding readArray
-array-malformed b h = (
-  λ e. let p = tested-malformed arrayMax b (decodeArray b) .0 e in (p .0, λ ts w f. none-some ts (sym (p .1) ∙ ap decodeArray (sym f) ∙ array-back ts w)),
-  λ p. tested-malformed arrayMax b (decodeArray b) .1 (p .0, nothing (decodeArray b) refl (p .1)),
-)
-  where
-    none-some : (ts : List Tree) → none ≡ some ts → ⊥
-    none-some ts e = let z : _≡_ {A = ℕ} 0 1 = cc in omega arith
-
-    nothing : (x : Option (List Tree)) → decodeArray b ≡ x → ((ts : List Tree) → Within ts → arrayBytes ts ≡ b → ⊥) → decodeArray b ≡ none
-    nothing none e k = e
-    nothing (some ts) e k = let p = array-only b ts h e in absurd (k ts (p .1) (p .0))
+array-malformed b h = malformed-form arrayMax b (decodeArray b) arrayBytes Within (array-form b h)

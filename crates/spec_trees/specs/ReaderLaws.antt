@@ -216,3 +216,18 @@ module _ {A : Type 0} (n : ℕ) (b : List ℕ) where
       out none true e h = (leb-true (length b) n e, refl)
       out (some a) true e h = let z : accepted a ≡ malformed = rw e at h in let y : _≡_ {A = ℕ} 0 1 = cc in absurd (omega arith)
       out x false e h = let z : _≡_ {A = Tested A} overlong malformed = rw e at h in let y : _≡_ {A = ℕ} 0 1 = cc in absurd (omega arith)
+
+  -- so where x is just what has b as its form and is allowed, malformed is what is short enough and no such form
+  pub malformed-form : (x : Option A) (form : A → List ℕ) (P : A → Type 0) → ((a : A) → (x ≡ some a) ↔ ((form a ≡ b) × P a))
+      → (tested n b x ≡ malformed) ↔ ((length b ≤ n) × ((a : A) → P a → form a ≡ b → ⊥))
+  malformed-form x form P k = (
+    λ e. let p = tested-malformed x .0 e in (p .0, λ a o f. none-some a (sym (p .1) ∙ k a .1 (f, o))),
+    λ p. tested-malformed x .1 (p .0, nothing x refl (p .1)),
+  )
+    where
+      none-some : (a : A) → none ≡ some a → ⊥
+      none-some a e = let z : _≡_ {A = ℕ} 0 1 = cc in omega arith
+
+      nothing : (y : Option A) → x ≡ y → ((a : A) → P a → form a ≡ b → ⊥) → x ≡ none
+      nothing none e h = e
+      nothing (some a) e h = let q = k a .0 e in absurd (h a (q .1) (q .0))
