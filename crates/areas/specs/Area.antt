@@ -9,6 +9,7 @@ use lib.Seq.{slice}
 use lib.Dec.{leb}
 use Rattle.areas.specs.declared.area.Out.{Out}
 use Rattle.areas.specs.declared.area.Out.the-variants.{At, TooLarge}
+use Rattle.areas.specs.declared.span.Span.{Span}
 use Rattle.spec_trees.specs.Bytes.{fieldBytes}
 
 -- xs stands in w from p to e
@@ -16,6 +17,14 @@ pub record Is (w : List ℕ) (p e : ℕ) (xs : List ℕ) : Type 0 where
   pub lies : slice p e w ≡ xs
   pub ends : e ≡ p + length xs
   pub inside : e ≤ length w
+
+-- places as values
+abbrev pub span : ℕ → ℕ → Span
+span p e = record { from = p; to = e }
+
+-- xs stands in w at a place
+abbrev pub IsAt : List ℕ → Span → List ℕ → Type 0
+IsAt w at xs = Is w (at .from) (at .to) xs
 
 -- w became v: xs stands behind the first d bytes, up to e, which does not pass stop; from top on all is as it was
 pub record Fitted (w v : List ℕ) (d stop top : ℕ) (xs : List ℕ) (e : ℕ) : Type 0 where

@@ -2,8 +2,8 @@
 use mathlib.Core.Path.{_≡_, refl, sym, ap, ap₂, subst, _∙_}
 use mathlib.Core.List.{List, [], _∷_, _++_, append-assoc, append-nil}
 use mathlib.Core.Logic.{_⊎_, inl, inr}
-use Prim.Native.Nat.{ℕ, _+_, _-_, _/_, _%_, _≤_, _<_}
-use native.Mathlib.Nat.{add-assoc, add-zero}
+use Prim.Native.Nat.{ℕ, _+_, _-_, _≤_, _<_}
+use native.Mathlib.Nat.{add-zero}
 use native.Mathlib.Numerals.{add-one}
 use native.Mathlib.Omega.{arith}
 use lib.ListN.{length, take, drop, getD, set, take-append-drop, length-append, length-take, length-drop, List·getD-append, drop-of-length-le, replicate}
@@ -234,15 +234,6 @@ byte-before {w} {v} {d} {stop} x b s h =
     wrote-before h (omega arith) (omega arith) (set-fitted v d x n)
 
 -- ---- heads
-
--- the three bytes stored from the last to the first
-pub head-set : (w : List ℕ) (d tag n : ℕ) → d + 3 ≤ length w
-    → Wrote w (set (set (set w (d + 2) (n % 256)) (d + 1) (n / 256)) d tag) d (d + 3) (headBytes tag n) (At (d + 3))
-head-set w d tag n b =
-    let none = subst (λ m. Wrote w w m (d + 3) [] (At (d + 3))) (sym (add-assoc d 2 1)) (wrote-none w (d + 3) (d + 3) (omega arith)) in
-    let two = byte-before (n % 256) (omega arith) (omega arith) none in
-    let behind = subst (λ m. Wrote w (set w (d + 2) (n % 256)) m (d + 3) (n % 256 ∷ []) (At (d + 3))) (sym (add-assoc d 1 1)) two in
-    byte-before tag (omega arith) (omega arith) (byte-before (n / 256) (omega arith) (omega arith) behind)
 
 -- a head stored before a content, unless the content did not fit
 module _ (w : List ℕ) (d tag : ℕ) {r : Out} where

@@ -2,18 +2,18 @@
 ghost use mathlib.Core.Path.{_≡_};
 ghost use Rattle.areas.specs.Compare.{sameBytes};
 
-/// Whether a and b are the same bytes. Fields of one kind begin alike, so the last bytes are compared first. Of how
+/// Whether two areas hold the same bytes. Fields of one kind begin alike, so the last bytes are compared first. Of how
 /// many steps it takes nothing is said.
-pub fn same_bytes(a: &[u8], b: &[u8]) -> bool
-    ensures { λ r. ⌜ r ≡ sameBytes (now (a .entry)) (now (b .entry)) ⌝ }
+pub fn same_bytes(one: &[u8], other: &[u8]) -> bool
+    ensures { λ r. ⌜ r ≡ sameBytes (now (one .entry)) (now (other .entry)) ⌝ }
 {
-    if a.len() != b.len() {
+    if one.len() != other.len() {
         return false;
     }
-    let mut i = a.len();
+    let mut i = one.len();
     while i != 0 {
         let j = i - 1;
-        if a[j] != b[j] {
+        if one[j] != other[j] {
             return false;
         }
         i = j;

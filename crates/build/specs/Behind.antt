@@ -6,7 +6,8 @@ use Prim.Native.Nat.{ℕ, _≤_, _<_}
 use Rattle.spec_trees.specs.Tree.{Tree, Labels, bare, label, root, labels}
 use Rattle.spec_trees.specs.Bytes.{treeBytes}
 use Rattle.spec_trees.specs.Within.{Ok, OkL}
-use Rattle.areas.specs.Area.{Is}
+use Rattle.areas.specs.Area.{IsAt}
+use Rattle.areas.specs.declared.span.Span.{Span}
 use Rattle.format.specs.Stand.{labelsBytes}
 use Rattle.spec_stages.specs.Merge.{mergeRoot}
 
@@ -38,9 +39,10 @@ pub record Behind (x y : Tree) : Type 0 where
 -- ---- what readers say, of whatever well formed trees stand there
 
 -- r is no less than any of the labels
-abbrev pub LastIs : (s : List ℕ) (p e : ℕ) → ℕ → Type 0
-LastIs s p e r = (ls : Labels) → OkL ls 0 → Is s p e (labelsBytes ls) → AtMost ls r
+abbrev pub LastIs : (s : List ℕ) (labelsAt : Span) → ℕ → Type 0
+LastIs s labelsAt r = (ls : Labels) → OkL ls 0 → IsAt s labelsAt (labelsBytes ls) → AtMost ls r
 
--- if r is true, the tree at i goes behind that at s
-abbrev pub GoesBehind : (w : List ℕ) (s se i ie : ℕ) → Bool → Type 0
-GoesBehind w s se i ie r = (x y : Tree) → Ok x → Is w s se (treeBytes x) → Is w i ie (treeBytes y) → r ≡ true → Behind x y
+-- if r is true, the part goes behind the tree so far
+abbrev pub GoesBehind : (w : List ℕ) (built part : Span) → Bool → Type 0
+GoesBehind w built part r = (x y : Tree) → Ok x → IsAt w built (treeBytes x) → IsAt w part (treeBytes y)
+    → r ≡ true → Behind x y

@@ -9,17 +9,18 @@ use lib.Seq.{take-take}
 use lib.Dec.{ltb}
 use borrow.Author.Tests.{lt-ltb, ltb-true}
 use Rattle.areas.specs.declared.area.Out.the-variants.{At, TooLarge}
+use Rattle.areas.specs.declared.span.Span.{Span}
 use Rattle.spec_trees.specs.Limits.{treeMax}
 use Rattle.spec_trees.specs.Tree.{Tree, node, Trees, ε, _▹_, Labels, bare, label, root, labels}
 use Rattle.spec_trees.specs.Size.{size, fits}
 use Rattle.spec_trees.specs.SizeLaws.{length-tree}
 use Rattle.spec_trees.specs.Bytes.{fieldBytes, bytes, treeF, labelFs, treeBytes}
 use Rattle.spec_trees.specs.Within.{Ok, OkL}
-use Rattle.areas.specs.Area.{Is, Wrote, headBytes, fieldEnd}
+use Rattle.areas.specs.Area.{Is, span, Wrote, headBytes, fieldEnd}
 use Rattle.areas.specs.AreaLaws.{length-field, is-content, fitted, drop-more, wrote-keep, written, wrote-seq, finish-at, is-copied}
 use Rattle.format.specs.Labels.{labelAt}
 use Rattle.format.specs.Stand.{rootBytes, labelsBytes, entryBytes, treesBytes, Holds}
-use Rattle.format.specs.StandLaws.{tree-parts, labels-parts, labels-none, is-alone}
+use Rattle.format.specs.StandLaws.{tree-parts, labels-first, labels-parts, labels-none, is-alone}
 use Rattle.spec_stages.specs.Merge.{mergeRoot, merge}
 use Rattle.spec_stages.specs.MergeTwo.{mergeTwo, mergeTwoL, into}
 use Rattle.spec_stages.specs.MergeTwoLaws.{root-labels, two-merge, two-bare}
@@ -32,7 +33,7 @@ use Rattle.build.specs.Behind.{AtMost, Apart, joinL, Behind, LastIs, Goe
 abbrev pub LastFrom : (s : List ℕ) (p e m : ℕ) → ℕ → Type 0
 LastFrom s p e m r = (ls : Labels) → OkL ls m → Is s p e (labelsBytes ls) → (m ≤ r) × AtMost ls r
 
-pub last-all : (s : List ℕ) (p e r : ℕ) → LastFrom s p e 0 r → LastIs s p e r
+pub last-all : (s : List ℕ) (p e r : ℕ) → LastFrom s p e 0 r → LastIs s (span p e) r
 last-all s p e r h ls o k = h ls o k .1
 
 pub last-end : (s : List ℕ) (p e m : ℕ) → p ≡ e → LastFrom s p e m m
@@ -55,8 +56,8 @@ apart-above : (ls : Labels) (n j : ℕ) (b : Trees) (ms : Labels) → AtMost ls 
 apart-above bare n j b ms h l = tt
 apart-above (label k a ls) n j b ms h l = (omega (arith, h .0), apart-above ls n j b ms (h .1) l)
 
-pub behind-no : (w : List ℕ) (s se i ie : ℕ) → GoesBehind w s se i ie false
-behind-no w s se i ie x y ox hx hy q = let z : _≡_ {A = ℕ} 0 1 = cc in absurd (omega arith)
+pub behind-no : (w : List ℕ) (built part : Span) → GoesBehind w built part false
+behind-no w built part x y ox hx hy q = let z : _≡_ {A = ℕ} 0 1 = cc in absurd (omega arith)
 
 module _ {w : List ℕ} {s se i ie l : ℕ} (v : getD w (i + 3) 0 ≡ 3) (g : l ≡ fieldEnd w (i + 3)) where
   root-stays : (x y : Tree) → Is w s se (treeBytes x) → Is w i ie (treeBytes y) → mergeRoot (root x) (root y) ≡ root x
@@ -65,12 +66,12 @@ module _ {w : List ℕ} {s se i ie l : ℕ} (v : getD w (i + 3) 0 ≡ 3) (g : l 
       let b = tree-parts y g hy in
       root-void w (s + 3) (fieldEnd w (s + 3)) (i + 3) l v (root x) (root y) (a .root-is) (b .root-is)
 
-  pub behind-bare : l ≡ ie → GoesBehind w s se i ie true
+  pub behind-bare : l ≡ ie → GoesBehind w (span s se) (span i ie) true
   behind-bare z x y ox hx hy q =
       let b = tree-parts y g hy in
       record { root-left = root-stays x y hx hy; apart = subst (Apart (labels x)) (sym (labels-none (labels y) z (b .labels-is))) (apart-bare (labels x)) }
 
-  pub behind-last : {k j m : ℕ} {r : Bool} → (l ≡ ie → ⊥) → m ≡ fieldEnd w (s + 3) → LastIs w m se k → j ≡ labelAt w l → r ≡ ltb k j → GoesBehind w s se i ie r
+  pub behind-last : {k j m : ℕ} {r : Bool} → (l ≡ ie → ⊥) → m ≡ fieldEnd w (s + 3) → LastIs w (span m se) k → j ≡ labelAt w l → r ≡ ltb k j → GoesBehind w (span s se) (span i ie) r
   behind-last {k} {j} z f d y e x y2 ox hx hy q =
       let a = tree-parts x f hx in
       let b = tree-parts y2 g hy in
@@ -92,7 +93,8 @@ joined-bytes : (ls ms : Labels) → labelsBytes (joinL ls ms) ≡ labelsBytes ls
 unfolding joinL bytes labelFs
 joined-bytes bare ms = refl
 joined-bytes (label k a ls) ms =
-    ap (λ (l : List ℕ). entryBytes k a ++ l) (joined-bytes ls ms) ∙ sym (append-assoc (entryBytes k a) (labelsBytes ls) (labelsBytes ms))
+    labels-first k a (joinL ls ms) ∙ ap (λ (l : List ℕ). entryBytes k a ++ l) (joined-bytes ls ms)
+    ∙ sym (ap (λ l. l ++ labelsBytes ms) (labels-first k a ls) ∙ append-assoc (entryBytes k a) (labelsBytes ls) (labelsBytes ms))
 
 abbrev content : Tree → List ℕ
 content t = rootBytes (root t) ++ labelsBytes (labels t)
@@ -122,7 +124,7 @@ wrote-itself {w} {d} {e} {xs} h = fitted record {
   beyond = refl;
 }
 
-module _ {w : List ℕ} {s se i ie l e : ℕ} (h : Addable w s se i ie) (k : DepthSaid w i ie true) (b : GoesBehind w s se i ie true)
+module _ {w : List ℕ} {s se i ie l e : ℕ} (h : Addable w (span s se) (span i ie)) (k : DepthSaid w (span i ie) true) (b : GoesBehind w (span s se) (span i ie) true)
     (g : l ≡ fieldEnd w (i + 3)) (z : e ≡ se + (ie - l)) where
   pub append-places : (s + 6 ≤ se) × (se ≤ l) × (l ≤ ie) × (ie ≤ length w)
   append-places =
@@ -153,7 +155,7 @@ module _ {w : List ℕ} {s se i ie l e : ℕ} (h : Addable w s se i ie) (k : Dep
         )
 
   -- too many bytes
-  pub append-large : treeMax < e - s → Added w w s se i ie TooLarge
+  pub append-large : treeMax < e - s → Added w w (span s se) (span i ie) TooLarge
   append-large q x y ox oy hx hy =
       refused (both (part-fits h k y hy) (fits-not (merge x y) (omega (arith, joined-ends x y ox oy hx hy)))) refl (λ top n. refl)
 
@@ -186,17 +188,17 @@ module _ {w : List ℕ} {s se i ie l e : ℕ} (h : Addable w s se i ie) (k : Dep
         let y = h .part in
         record { value = merge (x .tree) (y .tree) ▹ ε; value-is = is-alone (merge (x .tree) (y .tree)) (behind-is (x .tree) (y .tree) (x .ok) (y .ok) (x .tree-is) (y .tree-is)) }
 
-    module _ (r : e - s ≤ treeMax) {d : Bool} (f : DepthSaid w2 s e d) where
+    module _ (r : e - s ≤ treeMax) {d : Bool} (f : DepthSaid w2 (span s e) d) where
       merge-fits : (x y : Tree) → Ok x → Ok y → Is w s se (treeBytes x) → Is w i ie (treeBytes y) → fits (merge x y) ≡ d
       merge-fits x y ox oy hx hy =
           fits-by-depth (merge x y) d (omega (arith, joined-ends x y ox oy hx hy)) (depth-said (merge x y) (behind-is x y ox oy hx hy) f)
 
       -- too deep
-      pub append-deep : d ≡ false → Added w w2 s se i ie TooLarge
+      pub append-deep : d ≡ false → Added w w2 (span s se) (span i ie) TooLarge
       append-deep q x y ox oy hx hy =
           refused (both (part-fits h k y hy) (merge-fits x y ox oy hx hy ∙ q)) (behind-kept x y ox oy hx hy) (behind-beyond x y ox oy hx hy)
 
-      pub append-done : d ≡ true → Added w w2 s se i ie (At e)
+      pub append-done : d ≡ true → Added w w2 (span s se) (span i ie) (At e)
       append-done q x y ox oy hx hy = record {
         fit = λ n t. both (part-fits h k y hy) (merge-fits x y ox oy hx hy ∙ q);
         merge-is = λ n t. let j : e ≡ n = cc in subst (λ n. Is w2 s n (treeBytes (merge x y))) j (behind-is x y ox oy hx hy);

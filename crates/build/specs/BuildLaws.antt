@@ -17,7 +17,7 @@ use Rattle.spec_trees.specs.Size.{size, depth, depthA, fits}
 use Rattle.spec_trees.specs.SizeLaws.{length-tree}
 use Rattle.spec_trees.specs.Bytes.{fieldBytes, bytes, treeF, treeBytes}
 use Rattle.spec_trees.specs.Within.{Ok}
-use Rattle.areas.specs.Area.{Is, Fitted, Wrote}
+use Rattle.areas.specs.Area.{Is, span, Fitted, Wrote}
 use Rattle.areas.specs.AreaLaws.{take-less, is-keep, told, fitted-keep, fitted-is, wrote-keep, written, wrote-beyond, moved-fitted}
 use Rattle.format.specs.Stand.{treesBytes, Holds}
 use Rattle.spec_stages.specs.Merge.{merge, build}
@@ -43,13 +43,13 @@ module _ {w u : List ℕ} {s ie : ℕ} {x y : Tree} {r : Out} (h : PartAdded w u
   added-large q = build-large x y ts (h .large q)
 
 -- ---- a well formed tree that stands there
-pub standing-keep : {w u : List ℕ} {p e d : ℕ} → Standing w p e → take d u ≡ take d w → e ≤ d → Standing u p e
+pub standing-keep : {w u : List ℕ} {p e d : ℕ} → Standing w (span p e) → take d u ≡ take d w → e ≤ d → Standing u (span p e)
 standing-keep h k b = record { tree = h .tree; ok = h .ok; tree-is = is-keep (h .tree-is) k b }
 
-pub standing-written : {w u : List ℕ} {d stop e : ℕ} {r : Out} (t : Tree) → Ok t → d ≤ length w → Wrote w u d stop (treeBytes t) r → r ≡ At e → Standing u d e
+pub standing-written : {w u : List ℕ} {d stop e : ℕ} {r : Out} (t : Tree) → Ok t → d ≤ length w → Wrote w u d stop (treeBytes t) r → r ≡ At e → Standing u (span d e)
 standing-written t o b h q = record { tree = t; ok = o; tree-is = written h b q }
 
-pub standing-void : {w u : List ℕ} {d stop e : ℕ} {r : Out} → d ≤ length w → Wrote w u d stop (treeBytes bareVoid) r → r ≡ At e → Standing u d e
+pub standing-void : {w u : List ℕ} {d stop e : ℕ} {r : Out} → d ≤ length w → Wrote w u d stop (treeBytes bareVoid) r → r ≡ At e → Standing u (span d e)
 standing-void b h q = standing-written bareVoid (tt, tt) b h q
 
 -- ---- a tree alone, as the trees of an array
@@ -57,14 +57,14 @@ one-is : {w : List ℕ} {p e : ℕ} (t : Tree) → Is w p e (treeBytes t) → Is
 unfolding treeBytes treeF bytes
 one-is {w} {p} {e} t h = subst (λ l. Is w p e l) (sym (append-nil (fieldBytes (treeF t)))) h
 
-pub standing-one : {w : List ℕ} {p e : ℕ} → Standing w p e → Holds treesBytes w p e
+pub standing-one : {w : List ℕ} {p e : ℕ} → Standing w (span p e) → Holds treesBytes w p e
 standing-one h = record { value = h .tree ▹ ε; value-is = one-is (h .tree) (h .tree-is) }
 
 one-depth : (t : Tree) → depthA (t ▹ ε) ≡ depth t
 unfolding depth
 one-depth t = omega arith
 
-pub depth-said : {w : List ℕ} {p e : ℕ} {o : Bool} (t : Tree) → Is w p e (treeBytes t) → DepthSaid w p e o → leb (depth t) depthMax ≡ o
+pub depth-said : {w : List ℕ} {p e : ℕ} {o : Bool} (t : Tree) → Is w p e (treeBytes t) → DepthSaid w (span p e) o → leb (depth t) depthMax ≡ o
 depth-said t h k = ap (λ n. leb n depthMax) (sym (one-depth t)) ∙ sym (k (t ▹ ε) (one-is t h))
 
 -- ---- the tests
@@ -91,8 +91,8 @@ refused q a b = record {
 }
 
 -- ---- what `add_part` asks, and what it did
-module _ {w : List ℕ} {s se i ie : ℕ} (h : Addable w s se i ie) where
-  pub addable-ready : MergeReady treeBytes w s se i ie ie (ie + treeMax)
+module _ {w : List ℕ} {s se i ie : ℕ} (h : Addable w (span s se) (span i ie)) where
+  pub addable-ready : MergeReady treeBytes w (span s se) (span i ie) (span ie (ie + treeMax))
   addable-ready =
       let a = h .part .tree-is in
       record {
@@ -105,17 +105,17 @@ module _ {w : List ℕ} {s se i ie : ℕ} (h : Addable w s se i ie) where
         small = h .small;
       }
 
-  module _ {o : Bool} (k : DepthSaid w i ie o) where
+  module _ {o : Bool} (k : DepthSaid w (span i ie) o) where
     pub part-fits : (y : Tree) → Is w i ie (treeBytes y) → fits y ≡ o
     part-fits y hy =
         let b : size y ≤ treeMax = omega (arith, h .part-room, hy .ends, length-tree y) in
         fits-by-depth y o b (depth-said y hy k)
 
     -- the part is too deep
-    pub part-deep : o ≡ false → Added w w s se i ie TooLarge
+    pub part-deep : o ≡ false → Added w w (span s se) (span i ie) TooLarge
     part-deep q x y ox oy hx hy = refused (ap (λ a. a && fits (merge x y)) (part-fits y hy ∙ q)) refl (λ top b. refl)
 
-    module _ (z : o ≡ true) {u : List ℕ} {r : Out} (m : TreesMerged w u s se i ie ie (ie + treeMax) r) where
+    module _ (z : o ≡ true) {u : List ℕ} {r : Out} (m : TreesMerged w u (span s se) (span i ie) (span ie (ie + treeMax)) r) where
       module _ (x y : Tree) (ox : Ok x) (oy : Ok y) (hx : Is w s se (treeBytes x)) (hy : Is w i ie (treeBytes y)) where
         made : Wrote w u ie (ie + treeMax) (treeBytes (merge x y)) r
         made = m x y ox oy hx hy
@@ -131,7 +131,7 @@ module _ {w : List ℕ} {s se i ie : ℕ} (h : Addable w s se i ie) where
         made-refused q = refused (both (part-fits y hy ∙ z) q) made-below made-beyond
 
       -- the merge is too large
-      pub merge-large : r ≡ TooLarge → Added w u s se i ie TooLarge
+      pub merge-large : r ≡ TooLarge → Added w u (span s se) (span i ie) TooLarge
       merge-large q x y ox oy hx hy =
           made-refused x y ox oy hx hy
           (fits-not (merge x y) (omega (arith, made x y ox oy hx hy .large q .over, length-tree (merge x y))))
@@ -154,16 +154,16 @@ module _ {w : List ℕ} {s se i ie : ℕ} (h : Addable w s se i ie) where
             let g = made (x .tree) (y .tree) (x .ok) (y .ok) (x .tree-is) (y .tree-is) .fits e q in
             (omega (arith, h .above, x .tree-is .ends, y .tree-is .ends), omega (arith, g .ends), omega (arith, g .room, h .room))
 
-        module _ {d : Bool} (l : DepthSaid u ie e d) where
+        module _ {d : Bool} (l : DepthSaid u (span ie e) d) where
           -- the merge is too deep
-          pub merge-deep : d ≡ false → Added w u s se i ie TooLarge
+          pub merge-deep : d ≡ false → Added w u (span s se) (span i ie) TooLarge
           merge-deep c x y ox oy hx hy =
               let g = made x y ox oy hx hy .fits e q in
               let b : size (merge x y) ≤ treeMax = omega (arith, g .ends, g .room, length-tree (merge x y)) in
               made-refused x y ox oy hx hy (fits-by-depth (merge x y) false b (depth-said (merge x y) (merge-stands x y ox oy hx hy) l ∙ c))
 
           -- the merge was moved down
-          pub merge-moved : {v2 : List ℕ} → d ≡ true → Wrote u v2 s (length u) (take (e - ie) (drop ie u)) (At (s + (e - ie))) → Added w v2 s se i ie (At (s + (e - ie)))
+          pub merge-moved : {v2 : List ℕ} → d ≡ true → Wrote u v2 s (length u) (take (e - ie) (drop ie u)) (At (s + (e - ie))) → Added w v2 (span s se) (span i ie) (At (s + (e - ie)))
           merge-moved {v2} c k2 x y ox oy hx hy =
               let g = made x y ox oy hx hy .fits e q in
               let b : size (merge x y) ≤ treeMax = omega (arith, g .ends, g .room, length-tree (merge x y)) in

@@ -8,21 +8,22 @@ use lib.ListN.{length, take, drop}
 use borrow.Author.Tests.{lt-leb}
 use Rattle.areas.specs.declared.area.Out.{Out}
 use Rattle.areas.specs.declared.area.Out.the-variants.{At, TooLarge}
+use Rattle.areas.specs.declared.span.Span.{Span}
 use Rattle.spec_trees.specs.Limits.{treeMax, workMin}
 use Rattle.spec_trees.specs.Tree.{Tree, bareVoid}
 use Rattle.spec_trees.specs.Size.{size, rootSize, fits}
 use Rattle.spec_trees.specs.SizeLaws.{length-tree}
 use Rattle.spec_trees.specs.Bytes.{treeBytes}
 use Rattle.spec_trees.specs.Within.{Ok}
-use Rattle.areas.specs.Area.{Is, Wrote}
+use Rattle.areas.specs.Area.{Is, span, Wrote}
 use Rattle.areas.specs.AreaLaws.{take-less, drop-more, is-keep, wrote-keep, written}
 use Rattle.spec_trees.specs.OptionLaws.{true-T, T-and}
-use Rattle.format.specs.Stand.{treesBytes}
+use Rattle.format.specs.Stand.{treesBytes, Behind}
+use Rattle.format.specs.HeadedLaws.{headed-large}
 use Rattle.spec_trees.specs.Tree.{trees}
 use Rattle.spec_queries.specs.Rules.{OkP⁺}
-use Rattle.queries.specs.Places.{pathBytes, HoldsOk}
+use Rattle.queries.specs.Places.{pathBytes, OkAt}
 use Rattle.queries.specs.Steps.{stepCount}
-use Rattle.queries.specs.StepLaws.{steps-are}
 use Rattle.spec_stages.specs.Project.{placed}
 use Rattle.spec_stages.specs.Merge.{merge, build}
 use Rattle.spec_stages.specs.KeepLaws.{merge-ok, fits-allowed}
@@ -30,9 +31,8 @@ use Rattle.build.specs.Build.{Standing, Addable, Added}
 use Rattle.build.specs.BuildLaws.{added-next, added-large, standing-keep, standing-written}
 use Rattle.data.specs.declared.value.Value.{Value}
 use Rattle.place.specs.Writers.{Along}
-use Rattle.place.specs.WriterLaws.{path-short}
-use Rattle.place.specs.Place.{Placed, Behind, placeBytes}
-use Rattle.place.specs.PlaceLaws.{length-place, placed-tree, headed-large, place-bytes}
+use Rattle.place.specs.Place.{Placed, placeBytes, placeRoom, roomAt}
+use Rattle.place.specs.PlaceLaws.{room-all, room-small, length-place, placed-tree, place-bytes}
 use Rattle.build.specs.Made.{Made, Adding, AddedAt, Adds, ValueReady, PlacesValue}
 
 -- ---- the bare void tree, with which a build begins
@@ -50,8 +50,8 @@ begun {w} {u} {s} {r} h =
     go TooLarge z l = absurd (omega (arith, h .large z .over))
 
 -- ---- a part
-module _ {w : List ℕ} {s se : ℕ} {r : Out} (h : Adding w s se r) where
-  pub adding-ready : {e : ℕ} → r ≡ At e → Addable w s se (s + treeMax) e
+module _ {w : List ℕ} {s se : ℕ} {r : Out} (h : Adding w (span s se) r) where
+  pub adding-ready : {e : ℕ} → r ≡ At e → Addable w (span s se) (span (s + treeMax) e)
   adding-ready {e} z = record {
     whole = h .whole;
     part = h .part e z;
@@ -62,7 +62,7 @@ module _ {w : List ℕ} {s se : ℕ} {r : Out} (h : Adding w s se r) where
   }
 
   -- it was added
-  pub adds-part : {x : List ℕ} {e : ℕ} {o : Out} → r ≡ At e → Added w x s se (s + treeMax) e o → Adds w x s se r o
+  pub adds-part : {x : List ℕ} {e : ℕ} {o : Out} → r ≡ At e → Added w x (span s se) (span (s + treeMax) e) o → Adds w x (span s se) r o
   adds-part {x} {e} {o} z k u a b l oa ob ha hb =
       let keep : take (s + treeMax) w ≡ take (s + treeMax) u = wrote-keep hb (omega (arith, h .room)) in
       let ends = hb .fits e z .ends in
@@ -78,7 +78,7 @@ module _ {w : List ℕ} {s se : ℕ} {r : Out} (h : Adding w s se r) where
       }
 
   -- it is too large
-  pub adds-none : r ≡ TooLarge → Adds w w s se r TooLarge
+  pub adds-none : r ≡ TooLarge → Adds w w (span s se) r TooLarge
   unfolding fits
   adds-none z u a b l oa ob ha hb =
       let g = hb .large z in
@@ -93,39 +93,39 @@ module _ {w : List ℕ} {s se : ℕ} {r : Out} (h : Adding w s se r) where
       }
 
 -- ---- a value that is placed
-module _ {w q : List ℕ} {p e d stop : ℕ} {r : Value} (h : ValueReady w q p e d stop r) where
-  pub placing-behind : {f : ℕ} → r ≡ Value.At f → Behind w (d + 13 * stepCount p e) (At f)
+module _ {w q : List ℕ} {p : Span} {d stop : ℕ} {r : Value} (h : ValueReady w q p (span d stop) r) where
+  pub placing-behind : {f : ℕ} → r ≡ Value.At f → Behind w (d + roomAt q p (stepCount q p)) (At f)
   placing-behind {f} z g k = let y : f ≡ g = cc in omega (arith, h .behind f z)
 
-  pub places-none : {x : List ℕ} {o : Out} → r ≡ Value.Absent → Wrote w x d stop (treeBytes bareVoid) o → PlacesValue w x q p e d stop r o
+  pub places-none : {x : List ℕ} {o : Out} → r ≡ Value.Absent → Wrote w x d stop (treeBytes bareVoid) o → PlacesValue w x q p (span d stop) r o
   unfolding placed
   places-none {x} {o} z k u path y l hp n g =
       let a = g .absent z in
       subst (λ y2. Wrote u x d stop (treeBytes (placed path y2)) o) (sym (a .0)) (subst (λ u2. Wrote u2 x d stop (treeBytes bareVoid) o) (a .1) k)
 
-  pub places-at : {x : List ℕ} {f : ℕ} {o : Out} → r ≡ Value.At f → Placed w x q p e d (At f) o → PlacesValue w x q p e d stop r o
+  pub places-at : {x : List ℕ} {f : ℕ} {o : Out} → r ≡ Value.At f → Placed w x q p d (At f) o → PlacesValue w x q p (span d stop) r o
   unfolding placed
   places-at {x} {f} {o} z k u path y l hp n g =
       let a = g .fits f z in
-      let b : d + 13 * length path ≤ length u = omega (arith, h .room, h .inside, steps-are hp) in
+      let b : d + placeRoom path ≤ length u = omega (arith, h .room, h .inside, room-all path hp) in
       subst (λ y2. Wrote u x d stop (treeBytes (placed path y2)) o) (sym (a .same)) (placed-tree path (a .array) n k hp b (a .wrote))
 
-  pub places-large : r ≡ Value.TooLarge → PlacesValue w w q p e d stop r TooLarge
+  pub places-large : r ≡ Value.TooLarge → PlacesValue w w q p (span d stop) r TooLarge
   unfolding placed
   places-large z u path y l hp n g =
       let a = g .large z in
-      let b : d + 13 * length path ≤ length u = omega (arith, h .room, h .inside, steps-are hp) in
-      let k = headed-large (placeBytes path) (13 * length path) {w = w} {d = d} (length-place path) refl in
+      let b : d + placeRoom path ≤ length u = omega (arith, h .room, h .inside, room-all path hp) in
+      let k = headed-large (placeBytes path) (placeRoom path) {w = w} {d = d} (length-place path) refl in
       subst (λ y2. Wrote u w d stop (treeBytes (placed path y2)) TooLarge) (sym (a .same))
       (subst (λ l2. Wrote u w d stop l2 TooLarge) (sym (place-bytes path (a .array) n)) (k .wrote u stop (treesBytes (trees (a .array))) b (a .wrote)))
 
 -- ---- a path that is placed along
-pub target-along : {q : List ℕ} {f t : ℕ} → HoldsOk OkP⁺ pathBytes q f t → Along q f t
+pub target-along : {q : List ℕ} {p : Span} → OkAt OkP⁺ pathBytes q p → Along q p
 target-along h = record { path = h .value; path-is = h .value-is; allowed = h .allowed .0 }
 
--- the heads take at most 104 bytes
-pub target-heads : {q : List ℕ} {f t : ℕ} → HoldsOk OkP⁺ pathBytes q f t → (f ≤ t) × (13 * stepCount f t ≤ 104)
-target-heads h = (omega (arith, h .value-is .ends), omega (arith, steps-are (h .value-is), path-short (h .value) (h .allowed .0)))
+-- the heads take at most 112 bytes
+pub target-room : {q : List ℕ} {p : Span} → OkAt OkP⁺ pathBytes q p → roomAt q p (stepCount q p) ≤ 112
+target-room {q} {p} h = room-small (target-along h) (stepCount q p) (omega arith)
 
 -- ---- what was made, part by part
 
@@ -169,7 +169,7 @@ made-one {w} {u} {s} {x} {y} {o} h = go o refl
 
 -- the tree so far, with the part that was added
 module _ {w u : List ℕ} {s e : ℕ} {x y : Tree} {o : Out} (h : AddedAt w u s x y o) (ox : Ok x) (oy : Ok y) (q : o ≡ At e) where
-  pub added-whole : Standing u s e
+  pub added-whole : Standing u (span s e)
   added-whole = record { tree = merge x y; ok = merge-ok x y ox oy; tree-is = h .merge-is e q }
 
   pub added-within : e ≤ s + treeMax
@@ -178,8 +178,8 @@ module _ {w u : List ℕ} {s e : ℕ} {x y : Tree} {o : Out} (h : AddedAt w u s 
       omega (arith, h .ends e q, f .small)
 
 -- what is asked before a part that was written is added
-pub part-adding : {w u : List ℕ} {s se : ℕ} {r : Out} (y : Tree) → Ok y → Standing w s se → se ≤ s + treeMax → s + 3 * treeMax ≤ length w → length w ≤ workMin
-    → length u ≡ length w → Wrote w u (s + treeMax) (s + treeMax + treeMax) (treeBytes y) r → Adding u s se r
+pub part-adding : {w u : List ℕ} {s se : ℕ} {r : Out} (y : Tree) → Ok y → Standing w (span s se) → se ≤ s + treeMax → s + 3 * treeMax ≤ length w → length w ≤ workMin
+    → length u ≡ length w → Wrote w u (s + treeMax) (s + treeMax + treeMax) (treeBytes y) r → Adding u (span s se) r
 part-adding {w} {u} {s} {se} {r} y oy h a b c l k = record {
   whole = standing-keep h (wrote-keep k (omega arith)) a;
   within = a;

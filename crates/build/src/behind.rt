@@ -2,7 +2,8 @@
 //! the tree with the part's labels behind its own, so that nothing else is copied. Most items of a project and most
 //! places are such.
 ghost use Rattle.spec_trees.specs.Bytes.{treeBytes};
-ghost use Rattle.format.specs.Stand.{labelsBytes, Holds};
+ghost use Rattle.format.specs.Stand.{labelsBytes};
+ghost use Rattle.queries.specs.Places.{HoldsAt};
 ghost use Rattle.build.specs.Build.{DepthSaid, Addable, Added};
 ghost use Rattle.build.specs.Behind.{LastIs, GoesBehind};
 ghost use mathlib.Core.Bool.{true};
@@ -10,54 +11,71 @@ use areas::area::Out;
 use areas::area::field_end;
 use areas::area::move_down;
 use areas::area::put_head;
+use areas::span::Span;
 use format::depth::within_depth;
 use format::labels::label_at;
 use format::limits::Limits;
 
-/// The last of the labels that stand from p to e, or 0. Labels rise, so it is the greatest.
-fn last_label(s: &[u8], p: usize, e: usize) -> u16
-    requires { ⌜ Holds labelsBytes (now s) p e ⌝ }
-    ensures { λ r. ⌜ LastIs (now (s .entry)) p e r ⌝ }
+/// The last of the labels, or 0. Labels rise, so it is the greatest.
+fn last_label(area: &[u8], labels: Span) -> u16
+    requires { ⌜ HoldsAt labelsBytes (now area) labels ⌝ }
+    ensures { λ r. ⌜ LastIs (now (area .entry)) labels r ⌝ }
 {
-    let mut i = p;
+    let end = labels.to;
+    let mut at = labels.from;
     let mut last: u16 = 0;
-    while i != e {
-        last = label_at(s, i);
-        i = field_end(s, i);
+    while at != end {
+        last = label_at(area, at);
+        at = field_end(area, at);
     }
     last
 }
 
-/// Whether the part from i to ie goes behind the tree from s to se as it is.
-pub fn goes_behind(w: &[u8], s: usize, se: usize, i: usize, ie: usize) -> bool
-    requires { ⌜ Holds treeBytes (now w) s se × Holds treeBytes (now w) i ie ⌝ }
-    ensures { λ r. ⌜ GoesBehind (now (w .entry)) s se i ie r ⌝ }
+/// Whether the part goes behind the tree as it is.
+pub fn goes_behind(area: &[u8], built: Span, part: Span) -> bool
+    requires { ⌜ HoldsAt treeBytes (now area) built × HoldsAt treeBytes (now area) part ⌝ }
+    ensures { λ r. ⌜ GoesBehind (now (area .entry)) built part r ⌝ }
 {
-    if w[i + 3] != 3 {
+    let root = part.from + 3;
+    if area[root] != 3 {
         return false;
     }
-    let l = field_end(w, i + 3);
-    if l == ie {
+    let l = field_end(area, root);
+    if l == part.to {
         return true;
     }
-    let k = last_label(w, field_end(w, s + 3), se);
-    k < label_at(w, l)
+    let m = field_end(area, built.from + 3);
+    let last = last_label(
+        area,
+        Span {
+            from: m,
+            to: built.to,
+        },
+    );
+    last < label_at(area, l)
 }
 
-/// Puts the labels of the part from i to ie, which goes behind the tree from s to se, behind the tree's, and answers
-/// where the merge ends.
-pub fn append_part(w: &mut [u8], s: usize, se: usize, i: usize, ie: usize) -> Out
-    requires { ⌜ Addable (now w) s se i ie × DepthSaid (now w) i ie true × GoesBehind (now w) s se i ie true ⌝ }
-    ensures { λ r. ⌜ Added (now (w .entry)) (now (w .exit)) s se i ie r ⌝ }
+/// Puts the labels of the part, which goes behind the tree, behind the tree's, and answers where the merge ends.
+pub fn append_part(work: &mut [u8], built: Span, part: Span) -> Out
+    requires { ⌜ Addable (now work) built part × DepthSaid (now work) part true × GoesBehind (now work) built part true ⌝ }
+    ensures { λ r. ⌜ Added (now (work .entry)) (now (work .exit)) built part r ⌝ }
 {
-    let l = field_end(w, i + 3);
-    let e = se + (ie - l);
-    if Limits::TREE < e - s {
+    let l = field_end(work, part.from + 3);
+    let e = built.to + (part.to - l);
+    if Limits::TREE < e - built.from {
         return Out::TooLarge;
     }
-    move_down(w, l, ie, se);
-    put_head(w, s, 2, e);
-    if !within_depth(w, s, e, Limits::DEPTH) {
+    let labels = Span {
+        from: l,
+        to: part.to,
+    };
+    move_down(work, labels, built.to);
+    put_head(work, built.from, 2, e);
+    let merged = Span {
+        from: built.from,
+        to: e,
+    };
+    if !within_depth(work, merged, Limits::DEPTH) {
         return Out::TooLarge;
     }
     Out::At(e)

@@ -1,42 +1,47 @@
 //! Building a tree by merging parts, each tested: what a project does with its items, a group with its pairs and a
-//! lookup with its place. The tree so far stands at s; a part is written above it, with room for one tree, and added.
+//! lookup with its place. The tree so far stands below its part, which is written with room for one tree, and added.
 ghost use mathlib.Core.Bool.{true};
 ghost use Rattle.build.specs.Build.{DepthSaid, Addable, Added};
 use crate::behind::append_part;
 use crate::behind::goes_behind;
 use areas::area::Out;
 use areas::area::move_down;
+use areas::span::Span;
 use format::depth::within_depth;
 use format::limits::Limits;
 use merge::merge::merge_tree;
 
-/// Merges the part from i to ie with the tree from s to se, above the part, where the merge may still be too large,
-/// and then moves it down to s.
-fn merge_part(w: &mut [u8], s: usize, se: usize, i: usize, ie: usize) -> Out
-    requires { ⌜ Addable (now w) s se i ie × DepthSaid (now w) i ie true ⌝ }
-    ensures { λ r. ⌜ Added (now (w .entry)) (now (w .exit)) s se i ie r ⌝ }
+/// Merges the part with the tree, above the part, where the merge may still be too large, and then moves it down to
+/// where the tree begins.
+fn merge_part(work: &mut [u8], built: Span, part: Span) -> Out
+    requires { ⌜ Addable (now work) built part × DepthSaid (now work) part true ⌝ }
+    ensures { λ r. ⌜ Added (now (work .entry)) (now (work .exit)) built part r ⌝ }
 {
-    let both = merge_tree(w, s, se, i, ie, ie, ie + Limits::TREE);
+    let s = built.from;
+    let d = part.to;
+    let stop = d + Limits::TREE;
+    let both = merge_tree(work, built, part, Span { from: d, to: stop });
     let Out::At(e) = both else {
         return Out::TooLarge;
     };
-    if !within_depth(w, ie, e, Limits::DEPTH) {
+    let merged = Span { from: d, to: e };
+    if !within_depth(work, merged, Limits::DEPTH) {
         return Out::TooLarge;
     }
-    move_down(w, ie, e, s);
-    Out::At(s + (e - ie))
+    move_down(work, merged, s);
+    Out::At(s + (e - d))
 }
 
-/// Adds the part from i to ie to the tree from s to se, which stands below it, and answers where their merge ends.
-pub fn add_part(w: &mut [u8], s: usize, se: usize, i: usize, ie: usize) -> Out
-    requires { ⌜ Addable (now w) s se i ie ⌝ }
-    ensures { λ r. ⌜ Added (now (w .entry)) (now (w .exit)) s se i ie r ⌝ }
+/// Adds the part to the tree, which stands below it, and answers where their merge ends.
+pub fn add_part(work: &mut [u8], built: Span, part: Span) -> Out
+    requires { ⌜ Addable (now work) built part ⌝ }
+    ensures { λ r. ⌜ Added (now (work .entry)) (now (work .exit)) built part r ⌝ }
 {
-    if !within_depth(w, i, ie, Limits::DEPTH) {
+    if !within_depth(work, part, Limits::DEPTH) {
         return Out::TooLarge;
     }
-    if goes_behind(w, s, se, i, ie) {
-        return append_part(w, s, se, i, ie);
+    if goes_behind(work, built, part) {
+        return append_part(work, built, part);
     }
-    merge_part(w, s, se, i, ie)
+    merge_part(work, built, part)
 }

@@ -1,5 +1,5 @@
-//! The parts of which a tree is built. The tree so far stands at s, with room for one tree; a part is written behind
-//! that room, and merged above it. So three such rooms are used, from s on.
+//! The parts of which a tree is built. The tree so far stands in room for one tree; a part is written behind that room,
+//! and merged above it. So three such rooms are used, from where the tree begins.
 ghost use Prim.Native.Nat.{_+_, _≤_};
 ghost use lib.ListN.{length};
 ghost use Rattle.spec_trees.specs.Limits.{treeMax};
@@ -9,48 +9,43 @@ ghost use Rattle.areas.specs.Area.{Wrote};
 ghost use Rattle.build.specs.Made.{Adding, Adds, ValueReady, PlacesValue};
 use crate::build::add_part;
 use areas::area::Out;
+use areas::span::Span;
 use data::value::Value;
 use format::limits::Limits;
 use place::place::place_heads;
 use place::place::put_void;
 
-/// Writes the bare void tree at s, with which a build begins, and answers where it ends.
-pub fn begin(w: &mut [u8], s: usize) -> usize
-    requires { ⌜ s + treeMax ≤ length (now w) ⌝ }
-    ensures { λ r. ⌜ Wrote (now (w .entry)) (now (w .exit)) s (s + treeMax) (treeBytes bareVoid) (Out.At r) ⌝ }
+/// Writes the bare void tree, with which a build begins, and answers where it ends.
+pub fn begin(work: &mut [u8], at: usize) -> usize
+    requires { ⌜ at + treeMax ≤ length (now work) ⌝ }
+    ensures { λ r. ⌜ Wrote (now (work .entry)) (now (work .exit)) at (at + treeMax) (treeBytes bareVoid) (Out.At r) ⌝ }
 {
-    put_void(w, s, s + Limits::TREE);
-    s + 6
+    let stop = at + Limits::TREE;
+    put_void(work, Span { from: at, to: stop });
+    at + 6
 }
 
-/// Adds the part that was written behind the room at s, with the answer r, to the tree from s to se.
-pub fn add_written(w: &mut [u8], s: usize, se: usize, r: Out) -> Out
-    requires { ⌜ Adding (now w) s se r ⌝ }
-    ensures { λ o. ⌜ Adds (now (w .entry)) (now (w .exit)) s se r o ⌝ }
+/// Adds the part that another writer wrote behind the tree's room to the tree.
+pub fn add_written(work: &mut [u8], built: Span, written: Out) -> Out
+    requires { ⌜ Adding (now work) built written ⌝ }
+    ensures { λ r. ⌜ Adds (now (work .entry)) (now (work .exit)) built written r ⌝ }
 {
-    let Out::At(e) = r else {
+    let Out::At(e) = written else {
         return Out::TooLarge;
     };
-    add_part(w, s, se, s + Limits::TREE, e)
+    let d = built.from + Limits::TREE;
+    add_part(work, built, Span { from: d, to: e })
 }
 
-/// Places at d, along the path that stands in q from p to e, a value that was written behind the room for the heads
-/// with the answer r. Absent gives the bare void tree.
-pub fn place_value(
-    w: &mut [u8],
-    q: &[u8],
-    p: usize,
-    e: usize,
-    d: usize,
-    stop: usize,
-    r: Value,
-) -> Out
-    requires { ⌜ ValueReady (now w) (now q) p e d stop r ⌝ }
-    ensures { λ o. ⌜ PlacesValue (now (w .entry)) (now (w .exit)) (now (q .entry)) p e d stop r o ⌝ }
+/// Places along the path a value that another writer wrote behind the room for the heads. Absent gives the bare void
+/// tree.
+pub fn place_value(work: &mut [u8], query: &[u8], target: Span, room: Span, written: Value) -> Out
+    requires { ⌜ ValueReady (now work) (now query) target room written ⌝ }
+    ensures { λ r. ⌜ PlacesValue (now (work .entry)) (now (work .exit)) (now (query .entry)) target room written r ⌝ }
 {
-    match r {
-        Value::Absent => put_void(w, d, stop),
-        Value::At(f) => place_heads(w, q, p, e, d, Out::At(f)),
+    match written {
+        Value::Absent => put_void(work, room),
+        Value::At(f) => place_heads(work, query, target, room.from, Out::At(f)),
         Value::TooLarge => Out::TooLarge,
     }
 }

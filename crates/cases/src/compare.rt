@@ -1,12 +1,12 @@
 //! The call of a case, and whether all that is seen of it is as expected. The work area is full of 170 before a run,
 //! and the result area full of 187, so that a byte that changed is seen.
+use areas::compare::same_bytes;
 use engine::answer::check_number;
 use engine::answer::length;
 use engine::answer::number;
 use engine::run::run;
 use format::check::check_array;
 use queries::check::check_query;
-use row_text::parts::alike;
 use row_text::parts::behind;
 use row_text::parts::each_is;
 use row_text::parts::front;
@@ -69,7 +69,7 @@ fn work_byte(n: u64) -> u8 {
 
 /// Compares the areas after a run whose number n and whose length are as expected.
 fn areas(n: u64, expected: &[u8], work: &[u8], result: &[u8]) -> Verdict {
-    if !alike(front(result, expected.len()), expected) {
+    if !same_bytes(front(result, expected.len()), expected) {
         return Verdict::Result;
     }
     if !each_is(behind(result, expected.len()), rest_byte(n)) {

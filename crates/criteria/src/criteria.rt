@@ -3,84 +3,87 @@
 //! evaluation ends and its depth is bounded. Of `<'a>`: see crate `paths`'s `equality`.
 ghost use mathlib.Core.Bool.{_&&_, _||_};
 ghost use Rattle.criteria.specs.Meets.{Evaluable, EvaluableTwo, Meets, MeetsTwo};
+use areas::span::Span;
 use paths::equality::path_equals_literal;
 use paths::equality::same_paths;
 use paths::path::present;
 use queries::criterion::CriterionAt;
 use queries::criterion::criterion_at;
 
-/// Whether the tree in s from a to b meets the criterion in q from c to ce.
-pub fn holds<'a>(
-    q: &'a [u8],
-    c: usize,
-    ce: usize,
-    s: &'a [u8],
-    a: usize,
-    b: usize,
-    left: usize,
-) -> bool
-    requires { ⌜ Evaluable (now q) c ce (now s) a b left ⌝ }
-    ensures { λ r. ⌜ Meets (now (q .entry)) c ce (now (s .entry)) a b left r ⌝ }
+/// Whether the tree meets the criterion.
+pub fn holds<'a>(query: &'a [u8], criterion: Span, area: &'a [u8], tree: Span, left: usize) -> bool
+    requires { ⌜ Evaluable (now query) criterion (now area) tree left ⌝ }
+    ensures { λ r. ⌜ Meets (now (query .entry)) criterion (now (area .entry)) tree left r ⌝ }
 {
-    let criterion = criterion_at(q, c, ce);
-    match criterion {
+    // a call gets a new span, so that only its branch pays for the copy that the call needs
+    let read = criterion_at(query, criterion);
+    match read {
         CriterionAt::Always => {
             return true;
         }
-        CriterionAt::Exists(f, t) => {
-            return present(q, f, t, 0, s, a, b);
+        CriterionAt::Exists(path) => {
+            return present(query, path, 0, area, tree);
         }
-        CriterionAt::Equal(f, t, g, u) => {
-            return path_equals_literal(q, f, t, g, u, s, a, b);
+        CriterionAt::Equal(path, literal) => {
+            return path_equals_literal(query, path, literal, area, tree);
         }
-        CriterionAt::Same(f, t, g, u) => {
-            return same_paths(q, f, t, g, u, s, a, b, s, a, b);
+        CriterionAt::Same(one, two) => {
+            let at = Span {
+                from: tree.from,
+                to: tree.to,
+            };
+            return same_paths(query, one, area, at, two, area, at);
         }
-        CriterionAt::Negated(f, t) => {
-            return !holds(q, f, t, s, a, b, left - 1);
+        CriterionAt::Negated(one) => {
+            let at = Span {
+                from: tree.from,
+                to: tree.to,
+            };
+            return !holds(query, one, area, at, left - 1);
         }
-        CriterionAt::Both(f, t, g, u) => {
-            return holds_both(q, f, t, g, u, s, a, b, left - 1);
+        CriterionAt::Both(one, two) => {
+            let at = Span {
+                from: tree.from,
+                to: tree.to,
+            };
+            return holds_both(query, one, two, area, at, left - 1);
         }
-        CriterionAt::Either(f, t, g, u) => {
-            return holds_either(q, f, t, g, u, s, a, b, left - 1);
+        CriterionAt::Either(one, two) => {
+            let at = Span {
+                from: tree.from,
+                to: tree.to,
+            };
+            return holds_either(query, one, two, area, at, left - 1);
         }
     }
 }
 
-/// Whether the tree meets the criterion from f to t and the one from g to u. The second is looked at only if the
-/// first is met.
+/// Whether the tree meets both criteria. The second is looked at only if the first is met.
 fn holds_both<'a>(
-    q: &'a [u8],
-    f: usize,
-    t: usize,
-    g: usize,
-    u: usize,
-    s: &'a [u8],
-    a: usize,
-    b: usize,
+    query: &'a [u8],
+    one: Span,
+    two: Span,
+    area: &'a [u8],
+    tree: Span,
     left: usize,
 ) -> bool
-    requires { ⌜ EvaluableTwo (now q) f t g u (now s) a b left ⌝ }
-    ensures { λ r. ⌜ MeetsTwo _&&_ (now (q .entry)) f t g u (now (s .entry)) a b left r ⌝ }
+    requires { ⌜ EvaluableTwo (now query) one two (now area) tree left ⌝ }
+    ensures { λ r. ⌜ MeetsTwo _&&_ (now (query .entry)) one two (now (area .entry)) tree left r ⌝ }
 {
-    holds(q, f, t, s, a, b, left) && holds(q, g, u, s, a, b, left)
+    holds(query, one, area, tree, left) && holds(query, two, area, tree, left)
 }
 
 /// Whether the tree meets one of the two. The second is looked at only if the first is not met.
 fn holds_either<'a>(
-    q: &'a [u8],
-    f: usize,
-    t: usize,
-    g: usize,
-    u: usize,
-    s: &'a [u8],
-    a: usize,
-    b: usize,
+    query: &'a [u8],
+    one: Span,
+    two: Span,
+    area: &'a [u8],
+    tree: Span,
     left: usize,
 ) -> bool
-    requires { ⌜ EvaluableTwo (now q) f t g u (now s) a b left ⌝ }
-    ensures { λ r. ⌜ MeetsTwo _||_ (now (q .entry)) f t g u (now (s .entry)) a b left r ⌝ }
+    requires { ⌜ EvaluableTwo (now query) one two (now area) tree left ⌝ }
+    ensures { λ r. ⌜ MeetsTwo _||_ (now (query .entry)) one two (now (area .entry)) tree left r ⌝ }
 {
-    holds(q, f, t, s, a, b, left) || holds(q, g, u, s, a, b, left)
+    holds(query, one, area, tree, left) || holds(query, two, area, tree, left)
 }

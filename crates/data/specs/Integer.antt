@@ -1,4 +1,4 @@
--- What readers and writers of the integers in a tree do.
+-- What happens to an integer in a tree.
 use mathlib.Core.Path.{_≡_}
 use mathlib.Core.List.{List}
 use Prim.Native.Nat.{ℕ, _+_, _<_, _^_}
@@ -8,10 +8,6 @@ use Rattle.areas.specs.declared.area.Out.{Out}
 use Rattle.spec_trees.specs.Bytes.{big, pattern}
 use Rattle.areas.specs.Area.{Is, Wrote}
 use Rattle.spec_stages.specs.Data.{reducedInt}
-
--- r is whatever number of 64 bits stands in w at `at`
-abbrev pub Reads64 : List ℕ → ℕ → ℕ → Type 0
-Reads64 w at r = (x : ℕ) → x < 2 ^ 64 → Is w at (at + 8) (big 8 x) → r ≡ x
 
 -- whatever integer stands in w at `at`, v has it divided by n
 abbrev pub Reduces : (w v : List ℕ) (at n : ℕ) → Type 0

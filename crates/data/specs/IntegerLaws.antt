@@ -1,20 +1,20 @@
--- Laws of integers as 64 bits: read, stored, and divided to nearest by their magnitude.
+-- Laws of integers as 64 bits, divided to nearest by their magnitude.
 use mathlib.Core.Path.{_≡_, refl, sym, ap, subst, _∙_}
-use mathlib.Core.List.{List, [], _∷_}
-use Prim.Native.Nat.{ℕ, zero, suc, _+_, _*_, _-_, _/_, _%_, _^_, _≤_, _<_}
-use native.Mathlib.Nat.{add-assoc, add-zero, add-mul, one-mul, mul-left-comm, le-mul-of-pos-right, div-mul-le-self, lt-div-mul-add, div-eq-of-lt-le, div-lt-iff-lt-mul}
+use mathlib.Core.List.{List}
+use Prim.Native.Nat.{ℕ, zero, suc, _+_, _*_, _-_, _/_, _^_, _≤_, _<_}
+use native.Mathlib.Nat.{add-mul, one-mul, mul-left-comm, le-mul-of-pos-right, div-mul-le-self, lt-div-mul-add, div-eq-of-lt-le, div-lt-iff-lt-mul}
 use native.Mathlib.Omega.{arith}
 use lib.IntN.{pos, negsuc, negℤ}
-use lib.ListN.{length, set, getD}
 use Rattle.areas.specs.declared.area.Out.{Out}
-use Rattle.spec_trees.specs.Bytes.{low, big, pattern}
+use Rattle.spec_trees.specs.Bytes.{big, pattern}
 use Rattle.spec_trees.specs.Decode.{signed}
 use Rattle.areas.specs.Area.{Wrote}
-use Rattle.areas.specs.AreaLaws.{is-nth, wrote-none, byte-before}
+use Rattle.areas.specs.Number.{wordAt}
+use Rattle.areas.specs.NumberLaws.{word-is}
 use Rattle.spec_trees.specs.OptionLaws.{ltb-yes, ltb-no}
 use Rattle.spec_trees.specs.NumberLaws.{signed-back, pattern-lt, signed-form}
 use Rattle.spec_stages.specs.Data.{nearest, reducedInt}
-use Rattle.data.specs.Integer.{Reads64, Reduces}
+use Rattle.data.specs.Integer.{Reduces}
 
 -- ---- to nearest
 
@@ -73,63 +73,11 @@ module _ (x n : ℕ) (h : 0 < n) where
         let e : 2 ^ 64 - 1 - (2 ^ 64 - 1 - k + 1) ≡ k - 1 = omega arith in
         signed-neg (2 ^ 64 - 1 - k + 1) (omega arith) ∙ ap negsuc e ∙ sym (negative ∙ negated k (omega arith))
 
--- ---- eight bytes
-
--- read, byte by byte
-abbrev pub be64 : List ℕ → ℕ → ℕ
-be64 w at =
-    ((((((getD w at 0 * 256 + getD w (at + 1) 0) * 256 + getD w (at + 2) 0) * 256 + getD w (at + 3) 0) * 256 + getD w (at + 4) 0) * 256 + getD w (at + 5) 0) * 256 + getD w (at + 6) 0) * 256
-    + getD w (at + 7) 0
-
--- one byte more
-horner : (n : ℕ) {s b : ℕ} → s ≡ n / 256 → b ≡ n % 256 → s * 256 + b ≡ n
-horner n p q = omega arith
-
-first-byte : (n : ℕ) {s : ℕ} → n < 256 → s ≡ n % 256 → s ≡ n
-first-byte n b q = omega arith
-
-reads-from : (w : List ℕ) (at x g f e d c b a : ℕ) → g ≡ x / 256 → f ≡ g / 256 → e ≡ f / 256 → d ≡ e / 256 → c ≡ d / 256 → b ≡ c / 256 → a ≡ b / 256 → a < 256
-    → getD w at 0 ≡ a % 256 → getD w (at + 1) 0 ≡ b % 256 → getD w (at + 2) 0 ≡ c % 256 → getD w (at + 3) 0 ≡ d % 256
-    → getD w (at + 4) 0 ≡ e % 256 → getD w (at + 5) 0 ≡ f % 256 → getD w (at + 6) 0 ≡ g % 256 → getD w (at + 7) 0 ≡ x % 256 → be64 w at ≡ x
-reads-from w at x g f e d c b a zg zf ze zd zc zb za l ha hb hc hd he hf hg hx =
-    horner x (horner g (horner f (horner e (horner d (horner c (horner b (first-byte a l ha ∙ za) hb ∙ zb) hc ∙ zc) hd ∙ zd) he ∙ ze) hf ∙ zf) hg ∙ zg) hx
-
-div-less : (x k : ℕ) → x < k * 256 → x / 256 < k
-div-less x k h = omega arith
-
-high : (x : ℕ) → x < 2 ^ 64 → x / 256 / 256 / 256 / 256 / 256 / 256 / 256 < 256
-high x h =
-    div-less _ 256 (div-less _ (256 * 256) (div-less _ (256 * 256 * 256) (div-less _ (256 * 256 * 256 * 256)
-    (div-less _ (256 * 256 * 256 * 256 * 256) (div-less _ (256 * 256 * 256 * 256 * 256 * 256) (div-less x (256 * 256 * 256 * 256 * 256 * 256 * 256) h))))))
-
-pub reads-64 : {w : List ℕ} {at r : ℕ} → r ≡ be64 w at → Reads64 w at r
-unfolding big low
-reads-64 {w} {at} {r} q x b h =
-    let ha : getD w at 0 ≡ x / 256 / 256 / 256 / 256 / 256 / 256 / 256 % 256 = ap (λ i. getD w i 0) (sym (add-zero at)) ∙ is-nth h 0 (omega arith) in
-    q ∙ reads-from w at x (x / 256) (x / 256 / 256) (x / 256 / 256 / 256) (x / 256 / 256 / 256 / 256) (x / 256 / 256 / 256 / 256 / 256)
-    (x / 256 / 256 / 256 / 256 / 256 / 256) (x / 256 / 256 / 256 / 256 / 256 / 256 / 256) refl refl refl refl refl refl refl (high x b)
-    ha (is-nth h 1 (omega arith)) (is-nth h 2 (omega arith)) (is-nth h 3 (omega arith)) (is-nth h 4 (omega arith)) (is-nth h 5 (omega arith))
-    (is-nth h 6 (omega arith)) (is-nth h 7 (omega arith))
-
--- one byte stored before those behind it
-store : {w v : List ℕ} {stop : ℕ} {xs : List ℕ} {r : Out} (d k x : ℕ) → d + k < length w → d + k < stop → Wrote w v (d + (k + 1)) stop xs r
-    → Wrote w (set v (d + k) x) (d + k) stop (x ∷ xs) r
-store {w} {v} {stop} {xs} {r} d k x b s h = byte-before x b s (subst (λ n. Wrote w v n stop xs r) (sym (add-assoc d k 1)) h)
-
-pub stored-64 : (w : List ℕ) (at a b c d e f g x : ℕ) → at + 8 ≤ length w
-    → Wrote w (set (set (set (set (set (set (set (set w (at + 7) x) (at + 6) g) (at + 5) f) (at + 4) e) (at + 3) d) (at + 2) c) (at + 1) b) at a)
-    at (at + 8) (a ∷ b ∷ c ∷ d ∷ e ∷ f ∷ g ∷ x ∷ []) (Out.At (at + 8))
-stored-64 w at a b c d e f g x n =
-    byte-before a (omega arith) (omega arith)
-    (store at 1 b (omega arith) (omega arith) (store at 2 c (omega arith) (omega arith) (store at 3 d (omega arith) (omega arith)
-    (store at 4 e (omega arith) (omega arith) (store at 5 f (omega arith) (omega arith) (store at 6 g (omega arith) (omega arith)
-    (store at 7 x (omega arith) (omega arith) (wrote-none w (at + 8) (at + 8) (omega arith)))))))))
-
 -- the integer that was read, divided and stored
-pub reduces : (w v : List ℕ) (at n : ℕ) {x y : ℕ} → Reads64 w at x → y < 2 ^ 64 → signed y ≡ reducedInt n (signed x)
+pub reduces : (w v : List ℕ) (at n : ℕ) {x y : ℕ} → x ≡ wordAt w at → y < 2 ^ 64 → signed y ≡ reducedInt n (signed x)
     → Wrote w v at (at + 8) (big 8 y) (Out.At (at + 8)) → Reduces w v at n
 reduces w v at n {x} {y} g b q k z m h =
-    let e : x ≡ pattern z = g (pattern z) (omega (arith, pattern-lt z m)) h in
+    let e : x ≡ pattern z = g ∙ word-is (pattern z) (omega (arith, pattern-lt z m)) h in
     let s : signed y ≡ reducedInt n z = q ∙ ap (λ i. reducedInt n (signed i)) e ∙ ap (reducedInt n) (signed-back z m) in
     let p : y ≡ pattern (reducedInt n z) = sym (signed-form y b .0) ∙ ap pattern s in
     subst (λ i. Wrote w v at (at + 8) (big 8 i) (Out.At (at + 8))) p k

@@ -16,7 +16,8 @@ use Rattle.format.specs.declared.labels.Found.the-variants.{Part, Missing}
 use Rattle.spec_trees.specs.Tree.{void, boolean, integer, text, Tree, node, Labels, list, root}
 use Rattle.spec_trees.specs.Bytes.{fieldBytes, bytes, big, pattern, rootF, treeF, treeBytes}
 use Rattle.spec_trees.specs.NumberLaws.{length-big}
-use Rattle.areas.specs.Area.{Is, Fitted, Wrote, fieldEnd}
+use Rattle.areas.specs.Area.{Is, Fitted, Wrote, fieldEnd, IsAt, span}
+use Rattle.areas.specs.declared.span.Span.{Span}
 use Rattle.areas.specs.AreaLaws.{fitted, failed, fitted-is, fitted-keep, wrote-keep, is-part, is-right, is-keep, is-tag, is-copied, take-less, drop-more, is-left}
 use Rattle.spec_trees.specs.Lists.{All}
 use Rattle.spec_trees.specs.SizeLaws.{trees-list}
@@ -109,36 +110,36 @@ part-reduced n t z = ap (λ c. cond c t (reducedTree n t)) (ne-eqb n 0 z)
 
 -- ---- the end of what was written
 
-pub wrote-kept : {w v : List ℕ} {d stop : ℕ} {xs : List ℕ} (r : Out) → d ≤ length w → d ≤ stop → Wrote w v d stop xs r → Kept w v d stop (valueOf r)
+pub wrote-kept : {w v : List ℕ} {d stop : ℕ} {xs : List ℕ} (r : Out) → d ≤ length w → d ≤ stop → Wrote w v d stop xs r → Kept w v (span d stop) (valueOf r)
 wrote-kept (Out.At e) b s h = let f = h .fits e refl in record { below = wrote-keep h b; after = omega (arith, f .ends); within = f .room }
 wrote-kept Out.TooLarge b s h = record { below = wrote-keep h b; after = omega arith; within = s }
 
-pub kept-same : {w v : List ℕ} {d stop : ℕ} {r o : Out} → r ≡ o → Kept w v d stop (valueOf r) → Kept w v d stop (valueOf o)
-kept-same {w} {v} {d} {stop} z h = subst (λ o. Kept w v d stop (valueOf o)) z h
+pub kept-same : {w v : List ℕ} {d stop : ℕ} {r o : Out} → r ≡ o → Kept w v (span d stop) (valueOf r) → Kept w v (span d stop) (valueOf o)
+kept-same {w} {v} {d} {stop} z h = subst (λ o. Kept w v (span d stop) (valueOf o)) z h
 
 -- the same after a change above d
-pub kept-more : {w u v : List ℕ} {d stop : ℕ} {r : Value} (m : ℕ) → d ≤ m → take m v ≡ take m u → Kept w u d stop r → Kept w v d stop r
+pub kept-more : {w u v : List ℕ} {d stop : ℕ} {r : Value} (m : ℕ) → d ≤ m → take m v ≡ take m u → Kept w u (span d stop) r → Kept w v (span d stop) r
 kept-more {w} {u} {v} {d} {stop} m b k h = record { below = take-less u v d m b k ∙ h .below; after = h .after; within = h .within }
 
-pub kept-none : (w : List ℕ) (d stop : ℕ) → d ≤ stop → Kept w w d stop Value.Absent
+pub kept-none : (w : List ℕ) (d stop : ℕ) → d ≤ stop → Kept w w (span d stop) Value.Absent
 kept-none w d stop s = record { below = refl; after = omega arith; within = s }
 
-pub kept-here : (w : List ℕ) (d stop : ℕ) → d ≤ stop → Kept w w d stop (Value.At d)
+pub kept-here : (w : List ℕ) (d stop : ℕ) → d ≤ stop → Kept w w (span d stop) (Value.At d)
 kept-here w d stop s = record { below = refl; after = omega arith; within = s }
 
-pub kept-large : {w v : List ℕ} {d stop : ℕ} → d ≤ stop → take d v ≡ take d w → Kept w v d stop Value.TooLarge
+pub kept-large : {w v : List ℕ} {d stop : ℕ} → d ≤ stop → take d v ≡ take d w → Kept w v (span d stop) Value.TooLarge
 kept-large s k = record { below = k; after = omega arith; within = s }
 
-kept-answer-is : {w v : List ℕ} {d stop : ℕ} (s : Bool) (e : ℕ) → d ≤ e → e ≤ stop → take d v ≡ take d w → Kept w v d stop (answerOf s e)
+kept-answer-is : {w v : List ℕ} {d stop : ℕ} (s : Bool) (e : ℕ) → d ≤ e → e ≤ stop → take d v ≡ take d w → Kept w v (span d stop) (answerOf s e)
 kept-answer-is true e a b k = record { below = k; after = a; within = b }
 kept-answer-is false e a b k = record { below = k; after = omega arith; within = omega arith }
 
-pub kept-answer : {w v : List ℕ} {d stop : ℕ} (s : Bool) (e : ℕ) {o : Value} → o ≡ answerOf s e → d ≤ e → e ≤ stop → take d v ≡ take d w → Kept w v d stop o
-kept-answer {w} {v} {d} {stop} s e z a b k = subst (Kept w v d stop) (sym z) (kept-answer-is s e a b k)
+pub kept-answer : {w v : List ℕ} {d stop : ℕ} (s : Bool) (e : ℕ) {o : Value} → o ≡ answerOf s e → d ≤ e → e ≤ stop → take d v ≡ take d w → Kept w v (span d stop) o
+kept-answer {w} {v} {d} {stop} s e z a b k = subst (Kept w v (span d stop)) (sym z) (kept-answer-is s e a b k)
 
 -- ---- a leaf
 module _ (w v : List ℕ) (a b d stop n : ℕ) {r : Out} (k : Wrote w v d stop (take (b - a) (drop a w)) r) where
-  pub leaf-large : r ≡ Out.TooLarge → WroteLeaf w v a b d stop n Out.TooLarge
+  pub leaf-large : r ≡ Out.TooLarge → WroteLeaf w v (span a b) (span d stop) n Out.TooLarge
   leaf-large z t h o = let f = is-copied h k .large z in failed record { over = omega (arith, part-length n t); below = f .below; beyond = f .beyond }
 
   module _ {e : ℕ} (z : r ≡ Out.At e) where
@@ -148,7 +149,7 @@ module _ (w v : List ℕ) (a b d stop n : ℕ) {r : Out} (k : Wrote w v d stop (
     leaf-same : (t : Tree) → Is w a b (treeBytes t) → part n t ≡ t → Wrote w v d stop (treeBytes (part n t)) (Out.At e)
     leaf-same t h q = subst (λ u. Wrote w v d stop (treeBytes u) (Out.At e)) (sym q) (fitted (copied t h))
 
-    pub leaf-plain : n ≡ 0 → WroteLeaf w v a b d stop n (Out.At e)
+    pub leaf-plain : n ≡ 0 → WroteLeaf w v (span a b) (span d stop) n (Out.At e)
     leaf-plain q t h o = leaf-same t h (part-zero n t q)
 
     module _ (l : d ≤ length w) where
@@ -164,7 +165,7 @@ module _ (w v : List ℕ) (a b d stop n : ℕ) {r : Out} (k : Wrote w v d stop (
           let p = tree-parts (h .value) refl i in
           (omega (arith, p .after, p .within), i .inside)
 
-      pub leaf-other : (n ≡ 0 → ⊥) → (getD v (d + 3) 0 ≡ 5 → ⊥) → WroteLeaf w v a b d stop n (Out.At e)
+      pub leaf-other : (n ≡ 0 → ⊥) → (getD v (d + 3) 0 ≡ 5 → ⊥) → WroteLeaf w v (span a b) (span d stop) n (Out.At e)
       leaf-other q c t h o = leaf-same t h (part-reduced n t q ∙ reduced-other n t (λ y. c (copied-tag t h ∙ y)))
 
       -- where the integer stands
@@ -204,7 +205,7 @@ module _ (w v : List ℕ) (a b d stop n : ℕ) {r : Out} (k : Wrote w v d stop (
           subst (λ l. Wrote w u d stop l (Out.At e)) (sym (integer-bytes x2 ls)) (fitted m)
       divided (node (text x) ls) c y i f o g = absurd (omega arith)
 
-      pub leaf-reduced : {u : List ℕ} → (n ≡ 0 → ⊥) → getD v (d + 3) 0 ≡ 5 → Reduces v u (d + 6) n → WroteLeaf w u a b d stop n (Out.At e)
+      pub leaf-reduced : {u : List ℕ} → (n ≡ 0 → ⊥) → getD v (d + 3) 0 ≡ 5 → Reduces v u (d + 6) n → WroteLeaf w u (span a b) (span d stop) n (Out.At e)
       leaf-reduced {u} q c g t h o =
           subst (λ x. Wrote w u d stop (treeBytes x) (Out.At e)) (sym (part-reduced n t q))
           (divided t c (copied-tag t h) (copied-is t h) (copied t h) (o q) g)
@@ -247,68 +248,68 @@ unfolding over joins apply
 over-self [] = refl
 over-self (t ∷ ts) = more-self t ts
 
-module _ (q : List ℕ) (p e i : ℕ) (w : List ℕ) (a b d stop n : ℕ) where
-  pub walk-end : {v : List ℕ} {r : Out} → i ≡ stepCount p e → WroteLeaf w v a b d stop n r → Tells q p e i w a b (WroteParts n false w v d stop (valueOf r))
+module _ (q : List ℕ) (p : Span) (i : ℕ) (w : List ℕ) (a b d stop n : ℕ) where
+  pub walk-end : {v : List ℕ} {r : Out} → i ≡ stepCount q p → WroteLeaf w v (span a b) (span d stop) n r → Tells q p i w (span a b) (WroteParts n false w v (span d stop) (valueOf r))
   unfolding given join
   walk-end {v} {r} z k =
-      tells-end q p e i w a b (WroteParts n false w v d stop (valueOf r)) z
+      tells-end q p i w a b (WroteParts n false w v (span d stop) (valueOf r)) z
       (λ t h o. value-array (part n t ∷ []) r refl (subst (λ l. Wrote w v d stop l r) (one-bytes (part n t)) (k t h (o .0))))
 
-  pub walk-missing : {r : Found} → i < stepCount p e → Under q p i w a b r → r ≡ Missing → Tells q p e i w a b (WroteParts n false w w d stop Value.Absent)
+  pub walk-missing : {r : Found} → i < stepCount q p → Under q p i w (span a b) r → r ≡ Missing → Tells q p i w (span a b) (WroteParts n false w w (span d stop) Value.Absent)
   unfolding join
-  walk-missing m u z = tells-missing q p e i w a b (WroteParts n false w w d stop Value.Absent) m u z (λ o. value-absent w d stop refl)
+  walk-missing m u z = tells-missing q p i w a b (WroteParts n false w w (span d stop) Value.Absent) m u z (λ o. value-absent w d stop refl)
 
   -- the answer of a leaf is the answer
-  pub walked-leaf : {v : List ℕ} {r : Out} {o : Value} → o ≡ valueOf r → i ≡ stepCount p e → Kept w v d stop (valueOf r) × WroteLeaf w v a b d stop n r
-      → Kept w v d stop o × Tells q p e i w a b (WroteParts n false w v d stop o)
+  pub walked-leaf : {v : List ℕ} {r : Out} {o : Value} → o ≡ valueOf r → i ≡ stepCount q p → Kept w v (span d stop) (valueOf r) × WroteLeaf w v (span a b) (span d stop) n r
+      → Kept w v (span d stop) o × Tells q p i w (span a b) (WroteParts n false w v (span d stop) o)
   walked-leaf {v} {r} {o} y z k =
-      (subst (Kept w v d stop) (sym y) (k .0), subst (λ c. Tells q p e i w a b (WroteParts n false w v d stop c)) (sym y) (walk-end z (k .1)))
+      (subst (Kept w v (span d stop)) (sym y) (k .0), subst (λ c. Tells q p i w (span a b) (WroteParts n false w v (span d stop) c)) (sym y) (walk-end z (k .1)))
 
-  pub walk-under : {r : Found} {x y : ℕ} {v : List ℕ} {o : Value} → i < stepCount p e → Under q p i w a b r → r ≡ Part x y
-      → TellsOver q p e (i + 1) w x y (WroteParts n false w v d stop o) → Tells q p e i w a b (WroteParts n false w v d stop o)
-  walk-under {v = v} {o = o} m u z k = tells-part q p e i w a b (WroteParts n false w v d stop o) m u z k
+  pub walk-under : {r : Found} {x y : ℕ} {v : List ℕ} {o : Value} → i < stepCount q p → Under q p i w (span a b) r → r ≡ Part (span x y)
+      → TellsOver q p (i + 1) w (span x y) (WroteParts n false w v (span d stop) o) → Tells q p i w (span a b) (WroteParts n false w v (span d stop) o)
+  walk-under {v = v} {o = o} m u z k = tells-part q p i w a b (WroteParts n false w v (span d stop) o) m u z k
 
-  pub over-walked : {v : List ℕ} {o : Value} → (a ≡ b → ⊥) → TellsJoined q p e i w a b (WroteParts n false w v d stop o)
-      → TellsOver q p e i w a b (WroteParts n false w v d stop o)
-  over-walked {v} {o} z k = over-some q p e i w a b (WroteParts n false w v d stop o) z k
+  pub over-walked : {v : List ℕ} {o : Value} → (a ≡ b → ⊥) → TellsJoined q p i w (span a b) (WroteParts n false w v (span d stop) o)
+      → TellsOver q p i w (span a b) (WroteParts n false w v (span d stop) o)
+  over-walked {v} {o} z k = over-some q p i w a b (WroteParts n false w v (span d stop) o) z k
 
   -- the array in one piece
-  pub over-piece : {v : List ℕ} {r : Out} → n ≡ 0 → i ≡ stepCount p e → Wrote w v d stop (take (b - a) (drop a w)) r
-      → TellsOver q p e i w a b (WroteParts n false w v d stop (valueOf r))
+  pub over-piece : {v : List ℕ} {r : Out} → n ≡ 0 → i ≡ stepCount q p → Wrote w v d stop (take (b - a) (drop a w)) r
+      → TellsOver q p i w (span a b) (WroteParts n false w v (span d stop) (valueOf r))
   unfolding join
   over-piece {v} {r} y z k path ts g h o =
-      let m : drop i path ≡ [] = drop-of-length-le path {i = i} (omega (arith, steps-are g)) in
+      let m : drop i path ≡ [] = drop-of-length-le path {i = i} (omega (arith, steps-are path g)) in
       let s : over (apply (drop i path)) (list ts) ≡ some (list ts) = ap (λ l. over (apply l) (list ts)) m ∙ over-self (list ts) in
       value-array (list ts) r (parts-zero n _ y ∙ s) (subst (λ l. Wrote w v d stop l r) (ap treesBytes (sym (trees-list ts))) (is-copied h k))
 
-  pub walked-piece : {v : List ℕ} {r : Out} {o : Value} → o ≡ valueOf r → n ≡ 0 → i ≡ stepCount p e → d ≤ length w → d ≤ stop → Wrote w v d stop (take (b - a) (drop a w)) r
-      → Kept w v d stop o × TellsOver q p e i w a b (WroteParts n false w v d stop o)
+  pub walked-piece : {v : List ℕ} {r : Out} {o : Value} → o ≡ valueOf r → n ≡ 0 → i ≡ stepCount q p → d ≤ length w → d ≤ stop → Wrote w v d stop (take (b - a) (drop a w)) r
+      → Kept w v (span d stop) o × TellsOver q p i w (span a b) (WroteParts n false w v (span d stop) o)
   walked-piece {v} {r} {o} x y z l s k =
-      (subst (Kept w v d stop) (sym x) (wrote-kept r l s k), subst (λ c. TellsOver q p e i w a b (WroteParts n false w v d stop c)) (sym x) (over-piece y z k))
+      (subst (Kept w v (span d stop)) (sym x) (wrote-kept r l s k), subst (λ c. TellsOver q p i w (span a b) (WroteParts n false w v (span d stop) c)) (sym x) (over-piece y z k))
 
-  pub over-empty : a ≡ b → d ≤ stop → TellsOver q p e i w a b (WroteParts n false w w d stop (Value.At d))
+  pub over-empty : a ≡ b → d ≤ stop → TellsOver q p i w (span a b) (WroteParts n false w w (span d stop) (Value.At d))
   unfolding join
-  over-empty z s = over-none q p e i w a b (WroteParts n false w w d stop (Value.At d)) z (λ o. value-done w d stop true s)
+  over-empty z s = over-none q p i w a b (WroteParts n false w w (span d stop) (Value.At d)) z (λ o. value-done w d stop true s)
 
   module _ (s : Bool) where
-    pub walk-done : {o : Value} → o ≡ answerOf s d → a ≡ b → d ≤ stop → TellsJoined q p e i w a b (WroteParts n s w w d stop o)
+    pub walk-done : {o : Value} → o ≡ answerOf s d → a ≡ b → d ≤ stop → TellsJoined q p i w (span a b) (WroteParts n s w w (span d stop) o)
     walk-done {o} y z l =
-        joined-end q p e i w a b (WroteParts n s w w d stop o) z (λ _. subst (λ c. WroteFound w w d stop (join (before s) none) c) (sym y) (value-done w d stop s l))
+        joined-end q p i w a b (WroteParts n s w w (span d stop) o) z (λ _. subst (λ c. WroteFound w w d stop (join (before s) none) c) (sym y) (value-done w d stop s l))
 
-    module _ {m : ℕ} (z : a ≡ b → ⊥) (g : m ≡ fieldEnd w a) {v : List ℕ} {r : Value} (k : Tells q p e i w a m (WroteParts n false w v d stop r)) where
-      pub walk-stop : isLarge r ≡ true → TellsJoined q p e i w a b (WroteParts n s w v d stop Value.TooLarge)
+    module _ {m : ℕ} (z : a ≡ b → ⊥) (g : m ≡ fieldEnd w a) {v : List ℕ} {r : Value} (k : Tells q p i w (span a m) (WroteParts n false w v (span d stop) r)) where
+      pub walk-stop : isLarge r ≡ true → TellsJoined q p i w (span a b) (WroteParts n s w v (span d stop) Value.TooLarge)
       unfolding join
       walk-stop l =
-          joined-next q p e i w a b (WroteParts n false w v d stop r) (λ x. Unit {0}) (WroteParts n s w v d stop Value.TooLarge) z g
+          joined-next q p i w a b (WroteParts n false w v (span d stop) r) (λ x. Unit {0}) (WroteParts n s w v (span d stop) Value.TooLarge) z g
           (λ x y f _ o. subst (λ c. WroteFound w v d stop (join (before s) c) Value.TooLarge) (sym (parts-join n x y))
           (value-stop s r l (f (All-left (Rooted n) (given x) (given y) (subst (All (Rooted n)) (given-join x y) o))) (parts n y)))
           k (λ path ts h c. tt)
 
       pub walk-next : d ≤ length w → b ≤ d → isLarge r ≡ false → take d v ≡ take d w → {f : ℕ} {t : Bool} → f ≡ endOf r d → t ≡ foundOf r s
-          → (u : List ℕ) (o : Value) → TellsJoined q p e i v m b (WroteParts n t v u f stop o) → TellsJoined q p e i w a b (WroteParts n s w u d stop o)
+          → (u : List ℕ) (o : Value) → TellsJoined q p i v (span m b) (WroteParts n t v u (span f stop) o) → TellsJoined q p i w (span a b) (WroteParts n s w u (span d stop) o)
       unfolding join
       walk-next l c y j {f} {t} x1 x2 u o h =
-          joined-next q p e i w a b (WroteParts n false w v d stop r) (WroteParts n t v u f stop o) (WroteParts n s w u d stop o) z g
+          joined-next q p i w a b (WroteParts n false w v (span d stop) r) (WroteParts n t v u (span f stop) o) (WroteParts n s w u (span d stop) o) z g
           (λ x x3 f1 f2 ok.
           let ok2 = subst (All (Rooted n)) (given-join x x3) ok in
           subst (λ c. WroteFound w u d stop (join (before s) c) o) (sym (parts-join n x x3))
@@ -316,12 +317,12 @@ module _ (q : List ℕ) (p e i : ℕ) (w : List ℕ) (a b d stop n : ℕ) where
           k (λ path ts h1 h2. h path ts h1 (is-keep h2 j c))
 
 -- ---- what a walk asks for, further on
-module _ {q : List ℕ} {p e i : ℕ} {w : List ℕ} {a b d stop n : ℕ} where
-  pub ready-leaf : WalkReady treeBytes q p e i w a b d stop n → LeafReady w a b d stop n
+module _ {q : List ℕ} {p : Span} {i : ℕ} {w : List ℕ} {a b d stop n : ℕ} where
+  pub ready-leaf : WalkReady treeBytes q p i w (span a b) (span d stop) n → LeafReady w (span a b) (span d stop) n
   ready-leaf h = record { tree = h .walk .stands; below = h .below; room = h .room; area = h .area; divisor = h .divisor }
 
-  pub ready-under : {r : Found} {x y : ℕ} → WalkReady treeBytes q p e i w a b d stop n → i < stepCount p e → Under q p i w a b r → r ≡ Part x y
-      → WalkReady treesBytes q p e (i + 1) w x y d stop n
+  pub ready-under : {r : Found} {x y : ℕ} → WalkReady treeBytes q p i w (span a b) (span d stop) n → i < stepCount q p → Under q p i w (span a b) r → r ≡ Part (span x y)
+      → WalkReady treesBytes q p (i + 1) w (span x y) (span d stop) n
   ready-under h m u z = record {
     walk = walk-part (h .walk) m u z;
     below = omega (arith, part-places (h .walk) u z, h .below);
@@ -330,8 +331,8 @@ module _ {q : List ℕ} {p e i : ℕ} {w : List ℕ} {a b d stop n : ℕ} where
     divisor = h .divisor;
   }
 
-  module _ (h : WalkReady treesBytes q p e i w a b d stop n) (z : a ≡ b → ⊥) {m : ℕ} (g : m ≡ fieldEnd w a) where
-    pub ready-first : WalkReady treeBytes q p e i w a m d stop n
+  module _ (h : WalkReady treesBytes q p i w (span a b) (span d stop) n) (z : a ≡ b → ⊥) {m : ℕ} (g : m ≡ fieldEnd w a) where
+    pub ready-first : WalkReady treeBytes q p i w (span a m) (span d stop) n
     ready-first = record {
       walk = walk-first (h .walk) z g;
       below = omega (arith, walk-places (h .walk) z g, h .below);
@@ -340,7 +341,7 @@ module _ {q : List ℕ} {p e i : ℕ} {w : List ℕ} {a b d stop n : ℕ} where
       divisor = h .divisor;
     }
 
-    pub ready-rest : {v : List ℕ} {f : ℕ} {r : Value} → Kept w v d stop r → f ≡ endOf r d → length v ≡ length w → WalkReady treesBytes q p e i v m b f stop n
+    pub ready-rest : {v : List ℕ} {f : ℕ} {r : Value} → Kept w v (span d stop) r → f ≡ endOf r d → length v ≡ length w → WalkReady treesBytes q p i v (span m b) (span f stop) n
     ready-rest k y l =
         let x = walk-rest (h .walk) z g in
         record {

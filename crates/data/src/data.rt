@@ -1,5 +1,5 @@
-//! Writing what data give of a tree. The tree stands in the lent area, below d, and its parts are copied once, to d
-//! and up: a literal from the query, an array of the tree in one piece where it stands so. Members of a list are
+//! Writing what data give of a tree. The tree stands in the lent area, below the room, and its parts are copied once, into
+//! the room: a literal from the query, an array of the tree in one piece where it stands so. Members of a list are
 //! written one behind another, which joins them. A choice writes only the branch that is chosen.
 ghost use mathlib.Core.Path.{_≡_};
 ghost use mathlib.Core.List.{map};
@@ -30,6 +30,7 @@ use areas::area::Out;
 use areas::area::copy;
 use areas::area::copy_in;
 use areas::area::field_end;
+use areas::span::Span;
 use criteria::criteria::holds;
 use format::labels::Found;
 use paths::path::under;
@@ -42,89 +43,94 @@ const TRUE: [u8; 7] = [2, 0, 4, 4, 0, 1, 1];
 
 const FALSE: [u8; 7] = [2, 0, 4, 4, 0, 1, 0];
 
-/// Copies the tree from a to b. For n other than 0 its root, if it is an integer, is divided by n.
-fn write_leaf(w: &mut [u8], n: usize, a: usize, b: usize, d: usize, stop: usize) -> Out
-    requires { ⌜ LeafReady (now w) a b d stop n ⌝ }
-    ensures { λ r. ⌜ Kept (now (w .entry)) (now (w .exit)) d stop (valueOf r) × WroteLeaf (now (w .entry)) (now (w .exit)) a b d stop n r ⌝ }
+/// Copies the tree. For a divisor other than 0 its root, if it is an integer, is divided by it.
+fn write_leaf(work: &mut [u8], divisor: usize, tree: Span, room: Span) -> Out
+    requires { ⌜ LeafReady (now work) tree room divisor ⌝ }
+    ensures { λ r. ⌜ Kept (now (work .entry)) (now (work .exit)) room (valueOf r) × WroteLeaf (now (work .entry)) (now (work .exit)) tree room divisor r ⌝ }
 {
-    let r = copy(w, a, b, d, stop);
+    let at = room.from;
+    let r = copy(work, tree, room);
     let Out::At(e) = r else {
         return Out::TooLarge;
     };
-    if n == 0 {
+    if divisor == 0 {
         return Out::At(e);
     }
-    if w[d + 3] != 5 {
+    if work[at + 3] != 5 {
         return Out::At(e);
     }
-    reduce_at(w, d + 6, n);
+    reduce_at(work, at + 6, divisor);
     Out::At(e)
 }
 
 /// Whether the trees at the end of a path, none of which is changed, are one piece with those under the same label.
-fn in_piece(n: usize, i: usize, k: usize) -> bool
-    ensures { λ r. ⌜ (r ≡ true → (n ≡ 0) × (i ≡ k)) ⌝ }
+fn in_piece(divisor: usize, i: usize, steps: usize) -> bool
+    ensures { λ r. ⌜ (r ≡ true → (divisor ≡ 0) × (i ≡ steps)) ⌝ }
 {
-    if n == 0 {
-        return i == k;
+    if divisor == 0 {
+        return i == steps;
     }
     false
 }
 
-/// What the path, from step i on, gives of the tree from a to b, with each root divided by n unless n is 0.
+/// What the path, from step i on, gives of the tree, with each root divided unless the divisor is 0.
 fn write_walk(
-    w: &mut [u8],
-    q: &[u8],
-    p: usize,
-    e: usize,
+    work: &mut [u8],
+    query: &[u8],
+    path: Span,
     i: usize,
-    n: usize,
-    a: usize,
-    b: usize,
-    d: usize,
-    stop: usize,
+    divisor: usize,
+    tree: Span,
+    room: Span,
 ) -> Value
-    requires { ⌜ WalkReady treeBytes (now q) p e i (now w) a b d stop n ⌝ }
-    ensures { λ r. ⌜ Kept (now (w .entry)) (now (w .exit)) d stop r × Tells (now (q .entry)) p e i (now (w .entry)) a b (WroteParts n false (now (w .entry)) (now (w .exit)) d stop r) ⌝ }
+    requires { ⌜ WalkReady treeBytes (now query) path i (now work) tree room divisor ⌝ }
+    ensures { λ r. ⌜ Kept (now (work .entry)) (now (work .exit)) room r × Tells (now (query .entry)) path i (now (work .entry)) tree (WroteParts divisor false (now (work .entry)) (now (work .exit)) room r) ⌝ }
 {
-    if i == steps(p, e) {
-        return value_of(write_leaf(w, n, a, b, d, stop));
+    if i == steps(query, path) {
+        return value_of(write_leaf(work, divisor, tree, room));
     }
-    let found = under(q, p, i, w, a, b);
-    let Found::Part(f, t) = found else {
+    let found = under(query, path, i, work, tree);
+    let Found::Part(part) = found else {
         return Value::Absent;
     };
-    write_over(w, q, p, e, i + 1, n, f, t, d, stop)
+    write_over(work, query, path, i + 1, divisor, part, room)
 }
 
-/// The same over the array whose trees stand from a to b.
+/// The same over an array, by its trees.
 fn write_over(
-    w: &mut [u8],
-    q: &[u8],
-    p: usize,
-    e: usize,
+    work: &mut [u8],
+    query: &[u8],
+    path: Span,
     i: usize,
-    n: usize,
-    a: usize,
-    b: usize,
-    d: usize,
-    stop: usize,
+    divisor: usize,
+    trees: Span,
+    room: Span,
 ) -> Value
-    requires { ⌜ WalkReady treesBytes (now q) p e i (now w) a b d stop n ⌝ }
-    ensures { λ r. ⌜ Kept (now (w .entry)) (now (w .exit)) d stop r × TellsOver (now (q .entry)) p e i (now (w .entry)) a b (WroteParts n false (now (w .entry)) (now (w .exit)) d stop r) ⌝ }
+    requires { ⌜ WalkReady treesBytes (now query) path i (now work) trees room divisor ⌝ }
+    ensures { λ r. ⌜ Kept (now (work .entry)) (now (work .exit)) room r × TellsOver (now (query .entry)) path i (now (work .entry)) trees (WroteParts divisor false (now (work .entry)) (now (work .exit)) room r) ⌝ }
 {
-    if in_piece(n, i, steps(p, e)) {
-        return value_of(copy(w, a, b, d, stop));
+    let end = trees.to;
+    let stop = room.to;
+    let mut from = trees.from;
+    let mut to = room.from;
+    if in_piece(divisor, i, steps(query, path)) {
+        return value_of(copy(work, trees, room));
     }
-    if a == b {
-        return Value::At(d);
+    if from == end {
+        return Value::At(to);
     }
-    let mut from = a;
-    let mut to = d;
     let mut any = false;
-    while from != b {
-        let m = field_end(w, from);
-        let r = write_walk(w, q, p, e, i, n, from, m, to, stop);
+    while from != end {
+        let m = field_end(work, from);
+        let r = write_walk(
+            work,
+            query,
+            path,
+            i,
+            divisor,
+            Span { from, to: m },
+            Span { from: to, to: stop },
+        );
         if is_large(r) {
             return Value::TooLarge;
         }
@@ -135,132 +141,137 @@ fn write_over(
     answer_of(any, to)
 }
 
-/// What the path, from step i on, gives of the tree from a to b.
-pub fn write_path(
-    w: &mut [u8],
-    q: &[u8],
-    p: usize,
-    e: usize,
-    i: usize,
-    a: usize,
-    b: usize,
-    d: usize,
-    stop: usize,
-) -> Value
-    requires { ⌜ WalkReady treeBytes (now q) p e i (now w) a b d stop 0 ⌝ }
-    ensures { λ r. ⌜ Tells (now (q .entry)) p e i (now (w .entry)) a b (λ x. WroteFound (now (w .entry)) (now (w .exit)) d stop x r) ⌝ }
+/// What the path gives of the tree.
+pub fn write_path(work: &mut [u8], query: &[u8], path: Span, tree: Span, room: Span) -> Value
+    requires { ⌜ WalkReady treeBytes (now query) path 0 (now work) tree room 0 ⌝ }
+    ensures { λ r. ⌜ Tells (now (query .entry)) path 0 (now (work .entry)) tree (λ x. WroteFound (now (work .entry)) (now (work .exit)) (room .from) (room .to) x r) ⌝ }
 {
-    write_walk(w, q, p, e, i, 0, a, b, d, stop)
+    write_walk(work, query, path, 0, 0, tree, room)
 }
 
-/// What the path gives of the tree from a to b, with the root of each tree divided by n.
+/// What the path gives of the tree, with the root of each tree divided.
 pub fn write_reduced(
-    w: &mut [u8],
-    q: &[u8],
-    p: usize,
-    e: usize,
-    n: usize,
-    a: usize,
-    b: usize,
-    d: usize,
-    stop: usize,
+    work: &mut [u8],
+    query: &[u8],
+    path: Span,
+    divisor: usize,
+    tree: Span,
+    room: Span,
 ) -> Value
-    requires { ⌜ WalkReady treeBytes (now q) p e 0 (now w) a b d stop n × (1 ≤ n) ⌝ }
-    ensures { λ r. ⌜ Tells (now (q .entry)) p e 0 (now (w .entry)) a b (λ x. All (λ t. OkR (root t)) (given x) → WroteFound (now (w .entry)) (now (w .exit)) d stop (Option·map (map (meant.reducedTree n)) x) r) ⌝ }
+    requires { ⌜ WalkReady treeBytes (now query) path 0 (now work) tree room divisor × (1 ≤ divisor) ⌝ }
+    ensures { λ r. ⌜ Tells (now (query .entry)) path 0 (now (work .entry)) tree (λ x. All (λ t. OkR (root t)) (given x) → WroteFound (now (work .entry)) (now (work .exit)) (room .from) (room .to) (Option·map (map (meant.reducedTree divisor)) x) r) ⌝ }
 {
-    write_walk(w, q, p, e, 0, n, a, b, d, stop)
+    write_walk(work, query, path, 0, divisor, tree, room)
 }
 
-/// The array whose trees stand in the query from f to t.
-fn write_literal(w: &mut [u8], q: &[u8], f: usize, t: usize, d: usize, stop: usize) -> Value
-    requires { ⌜ (f ≤ t) × (t ≤ length (now q)) × (d ≤ stop) × (stop ≤ length (now w)) ⌝ }
-    ensures { λ r. ⌜ WroteLiteral (now (q .entry)) f t (now (w .entry)) (now (w .exit)) d stop r ⌝ }
+/// The array whose trees stand in the query.
+fn write_literal(work: &mut [u8], query: &[u8], trees: Span, room: Span) -> Value
+    requires { ⌜ (trees .from ≤ trees .to) × (trees .to ≤ length (now query)) × (room .from ≤ room .to) × (room .to ≤ length (now work)) ⌝ }
+    ensures { λ r. ⌜ WroteLiteral (now (query .entry)) trees (now (work .entry)) (now (work .exit)) room r ⌝ }
 {
-    value_of(copy_in(w, &q[f..t], d, stop))
+    let from = trees.from;
+    let to = trees.to;
+    value_of(copy_in(work, &query[from..to], room))
 }
 
 /// The bare tree whose root is the boolean.
-fn put_boolean(w: &mut [u8], yes: bool, d: usize, stop: usize) -> Out
-    requires { ⌜ (d ≤ stop) × (stop ≤ length (now w)) ⌝ }
-    ensures { λ r. ⌜ Wrote (now (w .entry)) (now (w .exit)) d stop (treeBytes (node (boolean yes) bare)) r ⌝ }
+fn put_boolean(work: &mut [u8], yes: bool, room: Span) -> Out
+    requires { ⌜ (room .from ≤ room .to) × (room .to ≤ length (now work)) ⌝ }
+    ensures { λ r. ⌜ Wrote (now (work .entry)) (now (work .exit)) (room .from) (room .to) (treeBytes (node (boolean yes) bare)) r ⌝ }
 {
     if yes {
-        return copy_in(w, &TRUE, d, stop);
+        return copy_in(work, &TRUE, room);
     }
-    copy_in(w, &FALSE, d, stop)
+    copy_in(work, &FALSE, room)
 }
 
-/// Whether the tree from a to b meets the criterion from c to ce, as an array of one tree.
+/// Whether the tree meets the criterion, as an array of one tree.
 fn write_test(
-    w: &mut [u8],
-    q: &[u8],
-    c: usize,
-    ce: usize,
-    a: usize,
-    b: usize,
-    d: usize,
-    stop: usize,
+    work: &mut [u8],
+    query: &[u8],
+    criterion: Span,
+    tree: Span,
+    room: Span,
     left: usize,
 ) -> Value
-    requires { ⌜ DataReady (NestedC left) criterionBytes (now q) c ce (now w) a b d stop ⌝ }
-    ensures { λ r. ⌜ Gives (NestedC left) criterionBytes tested (now (q .entry)) c ce (now (w .entry)) (now (w .exit)) a b d stop r ⌝ }
+    requires { ⌜ DataReady (NestedC left) criterionBytes (now query) criterion (now work) tree room ⌝ }
+    ensures { λ r. ⌜ Gives (NestedC left) criterionBytes tested (now (query .entry)) criterion (now (work .entry)) (now (work .exit)) tree room r ⌝ }
 {
-    let yes = holds(q, c, ce, w, a, b, left);
-    value_of(put_boolean(w, yes, d, stop))
+    let at = Span {
+        from: tree.from,
+        to: tree.to,
+    };
+    let yes = holds(query, criterion, work, at, left);
+    value_of(put_boolean(work, yes, room))
 }
 
-/// What the data from c to ce, nested no deeper than `left`, give of the tree from a to b.
+/// What the data, nested no deeper than `left`, give of the tree.
 pub fn write_data(
-    w: &mut [u8],
-    q: &[u8],
-    c: usize,
-    ce: usize,
-    a: usize,
-    b: usize,
-    d: usize,
-    stop: usize,
+    work: &mut [u8],
+    query: &[u8],
+    datum: Span,
+    tree: Span,
+    room: Span,
     left: usize,
 ) -> Value
-    requires { ⌜ DataReady (NestedD left) dataBytes (now q) c ce (now w) a b d stop ⌝ }
-    ensures { λ r. ⌜ Gives (NestedD left) dataBytes meant.value (now (q .entry)) c ce (now (w .entry)) (now (w .exit)) a b d stop r ⌝ }
+    requires { ⌜ DataReady (NestedD left) dataBytes (now query) datum (now work) tree room ⌝ }
+    ensures { λ r. ⌜ Gives (NestedD left) dataBytes meant.value (now (query .entry)) datum (now (work .entry)) (now (work .exit)) tree room r ⌝ }
 {
-    let x = data_at(q, c, ce);
+    // a call gets new spans, so that only its branch pays for the copies that the call needs
+    let x = data_at(query, datum);
     match x {
-        DataAt::Literal(f, t) => write_literal(w, q, f, t, d, stop),
-        DataAt::Path(f, t) => write_path(w, q, f, t, 0, a, b, d, stop),
-        DataAt::Listed(f, t) => write_list(w, q, f, t, a, b, d, stop, left - 1),
-        DataAt::Test(f, t) => write_test(w, q, f, t, a, b, d, stop, left - 1),
-        DataAt::Choice(f, t, g, u, h, v) => {
-            if holds(q, f, t, w, a, b, left - 1) {
-                return write_data(w, q, g, u, a, b, d, stop, left - 1);
+        DataAt::Literal(trees) => write_literal(work, query, trees, room),
+        DataAt::Path(path) => write_path(work, query, path, tree, room),
+        DataAt::Listed(members) => write_list(work, query, members, tree, room, left - 1),
+        DataAt::Test(criterion) => write_test(work, query, criterion, tree, room, left - 1),
+        DataAt::Choice(criterion, one, two) => {
+            let at = Span {
+                from: tree.from,
+                to: tree.to,
+            };
+            let into = Span {
+                from: room.from,
+                to: room.to,
+            };
+            if holds(query, criterion, work, at, left - 1) {
+                return write_data(work, query, one, at, into, left - 1);
             }
-            write_data(w, q, h, v, a, b, d, stop, left - 1)
+            write_data(work, query, two, at, into, left - 1)
         }
-        DataAt::Reduced(f, t, n) => write_reduced(w, q, f, t, n, a, b, d, stop),
+        DataAt::Reduced(path, n) => write_reduced(work, query, path, n, tree, room),
     }
 }
 
-/// The members of a list, which stand from c to ce, one behind another.
+/// The members of a list, one behind another.
 fn write_list(
-    w: &mut [u8],
-    q: &[u8],
-    c: usize,
-    ce: usize,
-    a: usize,
-    b: usize,
-    d: usize,
-    stop: usize,
+    work: &mut [u8],
+    query: &[u8],
+    members: Span,
+    tree: Span,
+    room: Span,
     left: usize,
 ) -> Value
-    requires { ⌜ DataReady (NestedDs left) datasBytes (now q) c ce (now w) a b d stop ⌝ }
-    ensures { λ r. ⌜ Gives (NestedDs left) datasBytes (listedFrom false) (now (q .entry)) c ce (now (w .entry)) (now (w .exit)) a b d stop r ⌝ }
+    requires { ⌜ DataReady (NestedDs left) datasBytes (now query) members (now work) tree room ⌝ }
+    ensures { λ r. ⌜ Gives (NestedDs left) datasBytes (listedFrom false) (now (query .entry)) members (now (work .entry)) (now (work .exit)) tree room r ⌝ }
 {
-    let mut at = c;
-    let mut to = d;
+    let end = members.to;
+    let stop = room.to;
+    let mut at = members.from;
+    let mut to = room.from;
     let mut any = false;
-    while at != ce {
-        let m = field_end(q, at);
-        let r = write_data(w, q, at, m, a, b, to, stop, left);
+    while at != end {
+        let m = field_end(query, at);
+        let r = write_data(
+            work,
+            query,
+            Span { from: at, to: m },
+            Span {
+                from: tree.from,
+                to: tree.to,
+            },
+            Span { from: to, to: stop },
+            left,
+        );
         if is_large(r) {
             return Value::TooLarge;
         }

@@ -12,42 +12,42 @@ pub enum Value {
 }
 
 /// The answer of a writer of an array's trees.
-pub fn value_of(r: Out) -> Value
-    ensures { λ o. ⌜ o ≡ valueOf r ⌝ }
+pub fn value_of(written: Out) -> Value
+    ensures { λ r. ⌜ r ≡ valueOf written ⌝ }
 {
-    match r {
+    match written {
         Out::At(e) => Value::At(e),
         Out::TooLarge => Value::TooLarge,
     }
 }
 
 /// Whether the bytes did not fit.
-pub fn is_large(r: Value) -> bool
-    ensures { λ o. ⌜ o ≡ isLarge r ⌝ }
+pub fn is_large(value: Value) -> bool
+    ensures { λ r. ⌜ r ≡ isLarge value ⌝ }
 {
-    match r {
+    match value {
         Value::Absent => false,
         Value::At(e) => false,
         Value::TooLarge => true,
     }
 }
 
-/// Where the next byte goes, behind a value that was written at d.
-pub fn end_of(r: Value, d: usize) -> usize
-    ensures { λ o. ⌜ o ≡ endOf r d ⌝ }
+/// Where the next byte goes, behind a value that was written at `at`.
+pub fn end_of(value: Value, at: usize) -> usize
+    ensures { λ r. ⌜ r ≡ endOf value at ⌝ }
 {
-    match r {
-        Value::Absent => d,
+    match value {
+        Value::Absent => at,
         Value::At(e) => e,
-        Value::TooLarge => d,
+        Value::TooLarge => at,
     }
 }
 
 /// Whether the value is there, or one was before it.
-pub fn found_of(r: Value, some: bool) -> bool
-    ensures { λ o. ⌜ o ≡ foundOf r some ⌝ }
+pub fn found_of(value: Value, some: bool) -> bool
+    ensures { λ r. ⌜ r ≡ foundOf value some ⌝ }
 {
-    match r {
+    match value {
         Value::Absent => some,
         Value::At(e) => true,
         Value::TooLarge => some,
@@ -55,11 +55,11 @@ pub fn found_of(r: Value, some: bool) -> bool
 }
 
 /// The answer behind all values: absent if none of them was there.
-pub fn answer_of(some: bool, d: usize) -> Value
-    ensures { λ o. ⌜ o ≡ answerOf some d ⌝ }
+pub fn answer_of(some: bool, at: usize) -> Value
+    ensures { λ r. ⌜ r ≡ answerOf some at ⌝ }
 {
     if some {
-        return Value::At(d);
+        return Value::At(at);
     }
     Value::Absent
 }

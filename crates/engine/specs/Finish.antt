@@ -9,8 +9,9 @@ use Rattle.areas.specs.Area.{Is}
 use Rattle.format.specs.Stand.{treesBytes, Holds}
 use Rattle.queries.specs.Places.{arrayTrees}
 use Rattle.spec_stages.specs.Stages.{State, going}
+use Rattle.stream.specs.Map.{endPart, collectorAt}
 use Rattle.stretches.specs.declared.ended.Ended.{Ended}
-use Rattle.stretches.specs.Ended.{collectorAt, EndedIs}
+use Rattle.stretches.specs.Ended.{EndedIs}
 use Rattle.spec_run.specs.declared.answer.Answer.{Answer}
 use Rattle.spec_run.specs.Answer.{AnswersAs}
 use Rattle.spec_run.specs.Run.{final}
@@ -26,7 +27,7 @@ pub record AcceptReady (w : List ℕ) (n : ℕ) : Type 0 where
   pub trees : List Tree
   pub trees-are : Is w (collectorAt (length w)) (collectorAt (length w) + n) (arrayTrees trees)
   pub short : n + 3 ≤ arrayMax
-  pub wide : 21844 ≤ length w
+  pub wide : endPart ≤ length w
 
 -- whatever trees they are, the verdict is the plain run's
 abbrev pub Accepts : (w : List ℕ) (n : ℕ) (area left : List ℕ) → Answer → Type 0
@@ -37,7 +38,7 @@ Accepts w n area left a = (ts : List Tree) → Is w (collectorAt (length w)) (co
 pub record FinishReady (w : List ℕ) (r : Ended) : Type 0 where
   pub state : State
   pub ended : EndedIs w r state
-  pub wide : 21844 ≤ length w
+  pub wide : endPart ≤ length w
 
 -- whatever state it says, the verdict is the plain run's
 abbrev pub Finishes : (w : List ℕ) (r : Ended) (area left : List ℕ) → Answer → Type 0

@@ -18,9 +18,10 @@ use Rattle.areas.specs.Area.{Is, Wrote, headBytes}
 use Rattle.areas.specs.AreaLaws.{is-part, told}
 use Rattle.queries.specs.Places.{arrayTrees}
 use Rattle.spec_stages.specs.Stages.{State, going, large, long}
+use Rattle.stream.specs.Map.{collectorAt}
 use Rattle.stretches.specs.declared.ended.Ended.{Ended}
 use Rattle.stretches.specs.LaterLaws.{size-is}
-use Rattle.stretches.specs.Ended.{collectorAt, FullIs}
+use Rattle.stretches.specs.Ended.{FullIs}
 use Rattle.spec_run.specs.declared.answer.Refusal.{Refusal}
 use Rattle.spec_run.specs.declared.answer.Refusal.the-variants.{TreeLarge, GroupLong, ResultLong}
 use Rattle.spec_run.specs.declared.answer.Answer.{Answer}

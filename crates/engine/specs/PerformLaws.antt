@@ -16,6 +16,7 @@ use Rattle.spec_trees.specs.Within.{AllBytes}
 use Rattle.spec_trees.specs.ArrayLaws.{array-only, read-array}
 use Rattle.spec_queries.specs.QueryLaws.{query-only, read-query}
 use Rattle.spec_stages.specs.Stages.{State, going, large, long, stages}
+use Rattle.stream.specs.Map.{endPart}
 use Rattle.stretches.specs.declared.ended.Ended.{Ended}
 use Rattle.stretches.specs.Ended.{Forms, Runs}
 use Rattle.spec_run.specs.declared.answer.Refusal.{Refusal}
@@ -33,7 +34,7 @@ use Rattle.engine.specs.Perform.{Performs}
 
 -- ---- the stages, and then the end
 module _ {q i j w : List ℕ} {r : Ended} (k : Runs q i j w r) where
-  pub runs-finish : Forms q i j → 21844 ≤ length w → FinishReady w r
+  pub runs-finish : Forms q i j → endPart ≤ length w → FinishReady w r
   runs-finish h b = record {
     state = stages (h .joined) (h .query) (going (h .input));
     ended = k (h .query) (h .input) (h .joined) (h .query-is) (h .query-ok) (h .input-is) (h .input-ok) (h .joined-is) (h .joined-ok);

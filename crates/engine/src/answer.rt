@@ -8,10 +8,10 @@ use spec_run::answer::Answer;
 use spec_run::answer::Refusal;
 
 /// Document 01's number of a refusal.
-pub fn refusal_number(r: Refusal) -> u64
-    ensures { λ n. ⌜ n ≡ numberOf r ⌝ }
+pub fn refusal_number(refusal: Refusal) -> u64
+    ensures { λ n. ⌜ n ≡ numberOf refusal ⌝ }
 {
-    match r {
+    match refusal {
         Refusal::WorkShort => 1,
         Refusal::QueryLong => 2,
         Refusal::QueryMalformed => 3,
@@ -26,30 +26,30 @@ pub fn refusal_number(r: Refusal) -> u64
 }
 
 /// Document 01's number of an answer: 0 if it is accepted.
-pub fn number(a: Answer) -> u64
-    ensures { λ n. ⌜ n ≡ numbered a ⌝ }
+pub fn number(answer: Answer) -> u64
+    ensures { λ n. ⌜ n ≡ numbered answer ⌝ }
 {
-    match a {
+    match answer {
         Answer::Accepted(_) => 0,
         Answer::Refused(r) => refusal_number(r),
     }
 }
 
 /// How many bytes the result has: none if it is refused.
-pub fn length(a: Answer) -> usize
-    ensures { λ n. ⌜ n ≡ lengthened a ⌝ }
+pub fn length(answer: Answer) -> usize
+    ensures { λ n. ⌜ n ≡ lengthened answer ⌝ }
 {
-    match a {
+    match answer {
         Answer::Accepted(n) => n,
         Answer::Refused(_) => 0,
     }
 }
 
 /// Document 01's number of a check: 0 if it accepts, else that of the refusal that it stands for.
-pub fn check_number(c: Check, long: Refusal, malformed: Refusal) -> u64
-    ensures { λ n. ⌜ n ≡ checkedAs c long malformed ⌝ }
+pub fn check_number(check: Check, long: Refusal, malformed: Refusal) -> u64
+    ensures { λ n. ⌜ n ≡ checkedAs check long malformed ⌝ }
 {
-    match c {
+    match check {
         Check::Accepted => 0,
         Check::Overlong => refusal_number(long),
         Check::Malformed => refusal_number(malformed),

@@ -14,10 +14,10 @@ pub enum CallCheck {
 }
 
 /// The refusal of a lent piece: over its limit, or malformed.
-fn decide(c: Check, long: Refusal, malformed: Refusal) -> CallCheck
-    ensures { λ r. ⌜ r ≡ decided c long malformed ⌝ }
+fn decide(check: Check, long: Refusal, malformed: Refusal) -> CallCheck
+    ensures { λ r. ⌜ r ≡ decided check long malformed ⌝ }
 {
-    match c {
+    match check {
         Check::Accepted => CallCheck::Passed,
         Check::Overlong => CallCheck::Refused(long),
         Check::Malformed => CallCheck::Refused(malformed),

@@ -10,15 +10,15 @@ use areas::area::field_end;
 use areas::area::put_head;
 use spec_run::answer::Answer;
 use spec_run::answer::Refusal;
-use stream::collector::Map;
+use stream::map::Map;
 use stretches::ended::Ended;
 
 /// A refusal in or after the stages: the result area is zero.
-fn fail(r: Refusal, result: &mut [u8]) -> Answer
-    ensures { λ a. ⌜ (a ≡ Answer.Refused r) × (now (result .exit) ≡ replicate (length (now (result .entry))) 0) ⌝ }
+fn fail(refusal: Refusal, result: &mut [u8]) -> Answer
+    ensures { λ a. ⌜ (a ≡ Answer.Refused refusal) × (now (result .exit) ≡ replicate (length (now (result .entry))) 0) ⌝ }
 {
     clear(result);
-    Answer::Refused(r)
+    Answer::Refused(refusal)
 }
 
 /// Writes the array whose trees are src over all of out: its head, and each tree directly behind the one before it.
@@ -36,26 +36,26 @@ fn write_array(out: &mut [u8], src: &[u8])
     }
 }
 
-/// The array of whose trees the collector holds n bytes: it is written, if the result area has room for it.
-fn accept(w: &[u8], n: usize, result: &mut [u8]) -> Answer
-    requires { ⌜ AcceptReady (now w) n ⌝ }
-    ensures { λ a. ⌜ Accepts (now (w .entry)) n (now (result .entry)) (now (result .exit)) a ⌝ }
+/// The array of whose trees the collector holds `len` bytes: it is written, if the result area has room for it.
+fn accept(work: &[u8], len: usize, result: &mut [u8]) -> Answer
+    requires { ⌜ AcceptReady (now work) len ⌝ }
+    ensures { λ a. ⌜ Accepts (now (work .entry)) len (now (result .entry)) (now (result .exit)) a ⌝ }
 {
-    if result.len() < n + 3 {
+    if result.len() < len + 3 {
         return fail(Refusal::ResultLong, result);
     }
-    let from = w.len() - Map::END;
-    write_array(&mut result[..n + 3], &w[from..from + n]);
-    Answer::Accepted(n + 3)
+    let from = work.len() - Map::END;
+    write_array(&mut result[..len + 3], &work[from..from + len]);
+    Answer::Accepted(len + 3)
 }
 
 /// The answer of a run whose stages ended so.
-pub fn finish(w: &[u8], r: Ended, result: &mut [u8]) -> Answer
-    requires { ⌜ FinishReady (now w) r ⌝ }
-    ensures { λ a. ⌜ Finishes (now (w .entry)) r (now (result .entry)) (now (result .exit)) a ⌝ }
+pub fn finish(work: &[u8], ended: Ended, result: &mut [u8]) -> Answer
+    requires { ⌜ FinishReady (now work) ended ⌝ }
+    ensures { λ a. ⌜ Finishes (now (work .entry)) ended (now (result .entry)) (now (result .exit)) a ⌝ }
 {
-    match r {
-        Ended::Held(n) => accept(w, n, result),
+    match ended {
+        Ended::Held(n) => accept(work, n, result),
         Ended::Large => fail(Refusal::TreeLarge, result),
         Ended::Long => fail(Refusal::GroupLong, result),
         Ended::Full => fail(Refusal::ResultLong, result),

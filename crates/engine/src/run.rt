@@ -4,6 +4,7 @@ ghost use mathlib.Core.Path.{_≡_};
 ghost use mathlib.Core.Bool.{cond};
 ghost use lib.ListN.{length, replicate};
 ghost use lib.Dec.{leb};
+ghost use Rattle.spec_trees.specs.Limits.{workMin};
 ghost use Rattle.stretches.specs.Ended.{Forms};
 ghost use Rattle.spec_run.specs.Run.{call};
 ghost use Rattle.spec_run.specs.Answer.{numbered, lengthened, Answered};
@@ -22,25 +23,25 @@ fn perform<'a>(
     query: &'a [u8],
     input: &'a [u8],
     joined: &'a [u8],
-    w: &mut [u8],
+    work: &mut [u8],
     result: &mut [u8],
 ) -> Answer
-    requires { ⌜ Forms (now query) (now input) (now joined) × (length (now w) ≡ 65536) ⌝ }
+    requires { ⌜ Forms (now query) (now input) (now joined) × (length (now work) ≡ workMin) ⌝ }
     ensures { λ a. ⌜ Performs (now (query .entry)) (now (input .entry)) (now (joined .entry)) (now (result .entry)) (now (result .exit)) a ⌝ }
 {
-    let r = all(query, input, joined, w);
-    finish(w, r, result)
+    let ended = all(query, input, joined, work);
+    finish(work, ended, result)
 }
 
 /// A refusal before the stages: the work area is zero, unless it is too short; the result area is not touched.
-fn refuse(r: Refusal, work: &mut [u8]) -> Answer
-    ensures { λ a. ⌜ (a ≡ Answer.Refused r) × (now (work .exit) ≡ cond (leb 65536 (length (now (work .entry)))) (replicate (length (now (work .entry))) 0) (now (work .entry))) ⌝ }
+fn refuse(refusal: Refusal, work: &mut [u8]) -> Answer
+    ensures { λ a. ⌜ (a ≡ Answer.Refused refusal) × (now (work .exit) ≡ cond (leb workMin (length (now (work .entry)))) (replicate (length (now (work .entry))) 0) (now (work .entry))) ⌝ }
 {
     if work.len() < Limits::WORK {
-        return Answer::Refused(r);
+        return Answer::Refused(refusal);
     }
     clear(work);
-    Answer::Refused(r)
+    Answer::Refused(refusal)
 }
 
 /// Runs the query. Its number, its length and the whole content of the result area and of the work area are the plain
@@ -65,6 +66,6 @@ pub fn run<'a>(
             clear(work);
             a
         }
-        CallCheck::Refused(r) => refuse(r, work),
+        CallCheck::Refused(refusal) => refuse(refusal, work),
     }
 }

@@ -1,5 +1,5 @@
 -- Depth measured where trees and labels stand: a first one, and the others.
-use mathlib.Core.Path.{_≡_, refl, sym, ap, _∙_}
+use mathlib.Core.Path.{_≡_, refl, sym, ap, subst, _∙_}
 use mathlib.Core.List.{List}
 use mathlib.Core.Bool.{Bool, true, false, _&&_}
 use Prim.Native.Nat.{ℕ, suc, _+_, _*_, _-_, _/_, _≤_, _<_, max}
@@ -11,8 +11,9 @@ use Rattle.spec_trees.specs.Size.{rootSize, size, sizeA, sizeL, depth, depthA, 
 use Rattle.spec_trees.specs.SizeLaws.{length-treeFs}
 use Rattle.spec_trees.specs.Bytes.{treeBytes}
 use Rattle.areas.specs.Area.{Is, fieldEnd}
+use Rattle.format.specs.Labels.{treesAt}
 use Rattle.format.specs.Stand.{treesBytes, labelsBytes, Says}
-use Rattle.format.specs.StandLaws.{tree-parts, labels-parts, labels-none, trees-parts, trees-none, is-alone}
+use Rattle.format.specs.StandLaws.{heads-least, tree-parts, labels-parts, labels-none, trees-parts, trees-none, is-alone}
 
 leb-max : (a b n : ℕ) → leb (max a b) n ≡ (leb a n && leb b n)
 leb-max a b n = go (leb a n) (leb b n) refl refl
@@ -60,7 +61,7 @@ mutual
 
   labels-bytes : (ls : Labels) → 13 * depthL ls ≤ sizeL ls
   labels-bytes bare = omega arith
-  labels-bytes (label k a ls) = omega (arith, trees-bytes a, labels-bytes ls)
+  labels-bytes (label k a ls) = omega (arith, heads-least k, trees-bytes a, labels-bytes ls)
 
 -- ---- what a measure says of the trees, or of the labels, from p to e
 abbrev TreesSay : (s : List ℕ) (left p e : ℕ) → Bool → Type 0
@@ -117,13 +118,13 @@ module _ (s : List ℕ) (left p e : ℕ) where
           j (a .rest) (a .rest-is) ∙ sym (trees-first ts h ∙ ap (λ x. x && leb (depthA (a .rest)) left) q)
 
     -- the array of the first label, and the others
-    module _ (o : Bool) (k : TreesSay s left (p + 7) m o) where
+    module _ (f : ℕ) (y : f ≡ treesAt s p) (o : Bool) (k : TreesSay s left f m o) where
       labels-first : (ls : Labels) (h : Is s p e (labelsBytes ls)) → leb (depthL ls) left ≡ (o && leb (depthL (labels-parts ls g n h .others)) left)
       unfolding depth
       labels-first ls h =
           let a = labels-parts ls g n h in
           ap (λ x. leb (depthL x) left) (a .same) ∙ leb-max (depthA (a .array)) (depthL (a .others)) left
-          ∙ ap (λ x. x && leb (depthL (a .others)) left) (sym (k (a .array) (a .entry .array-is)))
+          ∙ ap (λ x. x && leb (depthL (a .others)) left) (sym (k (a .array) (subst (λ i. Is s i m (treesBytes (a .array))) (sym y) (a .entry .array-is))))
 
       pub labels-deep : o ≡ false → LabelsSay s left p e false
       labels-deep q ls h = sym (labels-first ls h ∙ ap (λ x. x && leb (depthL (labels-parts ls g n h .others)) left) q)

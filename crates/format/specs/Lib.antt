@@ -8,6 +8,7 @@ pub mod Check
 -- Laws.
 pub mod StandLaws
 pub mod LabelLaws
+pub mod HeadedLaws
 pub mod DepthLaws
 pub mod HeadLaws
 pub mod CheckLaws

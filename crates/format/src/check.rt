@@ -5,9 +5,10 @@
 //! still stand; it falls where a tree's labels are entered, so the walk ends however the bytes nest.
 use crate::head;
 use crate::head::Head;
-use crate::labels;
+use crate::labels::label_at;
 use crate::limits::Limits;
 use crate::view;
+use areas::span::Span;
 ghost use mathlib.Core.Path.{_≡_};
 ghost use Prim.Native.Nat.{_+_, _≤_};
 ghost use lib.ListN.{length};
@@ -23,48 +24,51 @@ pub enum Check {
 }
 
 /// A boolean's content: one byte, 0 or 1.
-fn check_bit(s: &[u8], from: usize, to: usize) -> bool
-    requires { ⌜ (from ≤ to) × (to ≤ length (now s)) ⌝ }
-    ensures { λ r. ⌜ r ≡ rootOk (4, slice from to (now (s .entry))) ⌝ }
+fn check_bit(area: &[u8], content: Span) -> bool
+    requires { ⌜ (content .from ≤ content .to) × (content .to ≤ length (now area)) ⌝ }
+    ensures { λ r. ⌜ r ≡ rootOk (4, slice (content .from) (content .to) (now (area .entry))) ⌝ }
 {
-    if to - from == 1 { s[from] < 2 } else { false }
+    let at = content.from;
+    if content.to - at == 1 {
+        area[at] < 2
+    } else {
+        false
+    }
 }
 
 /// A root field: by its tag, what its content may be.
-fn check_root(s: &[u8], tag: u8, from: usize, to: usize) -> bool
-    requires { ⌜ (from ≤ to) × (to ≤ length (now s)) ⌝ }
-    ensures { λ r. ⌜ r ≡ rootOk (tag, slice from to (now (s .entry))) ⌝ }
+fn check_root(area: &[u8], tag: u8, content: Span) -> bool
+    requires { ⌜ (content .from ≤ content .to) × (content .to ≤ length (now area)) ⌝ }
+    ensures { λ r. ⌜ r ≡ rootOk (tag, slice (content .from) (content .to) (now (area .entry))) ⌝ }
 {
+    let len = content.to - content.from;
     if tag == 3 {
-        return to - from == 0;
+        return len == 0;
     }
     if tag == 4 {
-        return check_bit(s, from, to);
+        return check_bit(area, content);
     }
     if tag == 5 {
-        return to - from == 8;
+        return len == 8;
     }
     if tag == 6 {
-        return to - from <= Limits::TEXT;
+        return len <= Limits::TEXT;
     }
     false
 }
 
-/// Tree fields from `from` to `end`, one behind another, where `left` levels of trees may stand.
-fn check_trees(s: &[u8], from: usize, end: usize, left: usize) -> bool
-    requires { ⌜ (from ≤ end) × (end ≤ length (now s)) ⌝ }
-    ensures { λ r. ⌜ r ≡ treesOk left (slice from end (now (s .entry))) ⌝ }
+/// Tree fields, one behind another, where `left` levels of trees may stand.
+fn check_trees(area: &[u8], trees: Span, left: usize) -> bool
+    requires { ⌜ (trees .from ≤ trees .to) × (trees .to ≤ length (now area)) ⌝ }
+    ensures { λ r. ⌜ r ≡ treesOk left (slice (trees .from) (trees .to) (now (area .entry))) ⌝ }
 {
-    let mut at = from;
+    let end = trees.to;
+    let mut at = trees.from;
     while at < end {
-        let h = head::head_at(s, at, end);
+        let h = head::head_at(area, at, end);
         match h {
-            Head::Field {
-                tag,
-                from: inner,
-                to,
-            } => {
-                if check_tree(s, tag, inner, to, left) {
+            Head::Field { tag, from, to } => {
+                if check_tree(area, tag, Span { from, to }, left) {
                     at = to;
                 } else {
                     return false;
@@ -80,9 +84,9 @@ fn check_trees(s: &[u8], from: usize, end: usize, left: usize) -> bool
 
 /// A tree field by its tag and content: within its limit, one root, then labels. The trees inside are one level deeper,
 /// so where no level is left, no tree may stand.
-fn check_tree(s: &[u8], tag: u8, from: usize, to: usize, left: usize) -> bool
-    requires { ⌜ (from ≤ to) × (to ≤ length (now s)) ⌝ }
-    ensures { λ r. ⌜ r ≡ treeOk left (tag, slice from to (now (s .entry))) ⌝ }
+fn check_tree(area: &[u8], tag: u8, content: Span, left: usize) -> bool
+    requires { ⌜ (content .from ≤ content .to) × (content .to ≤ length (now area)) ⌝ }
+    ensures { λ r. ⌜ r ≡ treeOk left (tag, slice (content .from) (content .to) (now (area .entry))) ⌝ }
 {
     if left == 0 {
         return false;
@@ -90,18 +94,23 @@ fn check_tree(s: &[u8], tag: u8, from: usize, to: usize, left: usize) -> bool
     if tag != 2 {
         return false;
     }
-    if Limits::TREE - 3 < to - from {
+    let end = content.to;
+    if Limits::TREE - 3 < end - content.from {
         return false;
     }
-    let h = head::head_at(s, from, to);
+    let h = head::head_at(area, content.from, end);
     match h {
         Head::Field {
             tag: root,
-            from: inner,
+            from,
             to: rest,
         } => {
-            if check_root(s, root, inner, rest) {
-                check_labels(s, rest, to, left - 1)
+            if check_root(area, root, Span { from, to: rest }) {
+                let labels = Span {
+                    from: rest,
+                    to: end,
+                };
+                check_labels(area, labels, left - 1)
             } else {
                 false
             }
@@ -110,19 +119,20 @@ fn check_tree(s: &[u8], tag: u8, from: usize, to: usize, left: usize) -> bool
     }
 }
 
-/// Label fields from `from` to `end`. Each label is above the one before it, so none is repeated.
-fn check_labels(s: &[u8], from: usize, end: usize, left: usize) -> bool
-    requires { ⌜ (from ≤ end) × (end ≤ length (now s)) ⌝ }
-    ensures { λ r. ⌜ r ≡ labelsOk left 0 (slice from end (now (s .entry))) ⌝ }
+/// Label fields, one behind another. Each label is above the one before it, so none is repeated.
+fn check_labels(area: &[u8], labels: Span, left: usize) -> bool
+    requires { ⌜ (labels .from ≤ labels .to) × (labels .to ≤ length (now area)) ⌝ }
+    ensures { λ r. ⌜ r ≡ labelsOk left 0 (slice (labels .from) (labels .to) (now (area .entry))) ⌝ }
 {
-    let mut at = from;
+    let end = labels.to;
+    let mut at = labels.from;
     let mut last: u16 = 0;
     while at < end {
-        let h = head::head_at(s, at, end);
+        let h = head::head_at(area, at, end);
         match h {
             Head::Field { tag, from: _, to } => {
-                if check_label(s, tag, at, to, last, left) {
-                    last = labels::label_at(s, at);
+                if check_label(area, tag, Span { from: at, to }, last, left) {
+                    last = label_at(area, at);
                     at = to;
                 } else {
                     return false;
@@ -136,52 +146,53 @@ fn check_labels(s: &[u8], from: usize, end: usize, left: usize) -> bool
     true
 }
 
-/// The label field with its head at `at`, by its tag: a label above `last`, then one array field that spans the rest.
-fn check_label(s: &[u8], tag: u8, at: usize, to: usize, last: u16, left: usize) -> bool
-    requires { ⌜ (at + 3 ≤ to) × (to ≤ length (now s)) ⌝ }
-    ensures { λ r. ⌜ r ≡ labelOk left last (tag, slice (at + 3) to (now (s .entry))) ⌝ }
+/// A label field, from its head on, by its tag: a label above `last`, then one array field that spans the rest.
+fn check_label(area: &[u8], tag: u8, field: Span, last: u16, left: usize) -> bool
+    requires { ⌜ (field .from + 3 ≤ field .to) × (field .to ≤ length (now area)) ⌝ }
+    ensures { λ r. ⌜ r ≡ labelOk left last (tag, slice (field .from + 3) (field .to) (now (area .entry))) ⌝ }
 {
+    let at = field.from;
     if tag != 7 {
         return false;
     }
-    if to - at < 4 {
+    if field.to - at < 4 {
         return false;
     }
-    let k = labels::label_at(s, at);
-    if k <= last {
+    let label = label_at(area, at);
+    if label <= last {
         return false;
     }
-    if Limits::LABEL < label_number(k) {
+    if Limits::LABEL < label_number(label) {
         return false;
     }
-    let h = head::spanning_at(s, at + 4, to);
+    let h = head::spanning_at(area, at + 4, field.to);
     match h {
         Head::Field {
             tag: inner,
             from,
-            to: end,
-        } => check_array_field(s, inner, from, end, left),
+            to,
+        } => check_array_field(area, inner, Span { from, to }, left),
         Head::Nothing => false,
     }
 }
 
 /// An array field by its tag and content, wherever it stands: an input, under a label, or in a query.
-pub fn check_array_field(s: &[u8], tag: u8, from: usize, to: usize, left: usize) -> bool
-    requires { ⌜ (from ≤ to) × (to ≤ length (now s)) ⌝ }
-    ensures { λ r. ⌜ r ≡ arrayOk left (tag, slice from to (now (s .entry))) ⌝ }
+pub fn check_array_field(area: &[u8], tag: u8, content: Span, left: usize) -> bool
+    requires { ⌜ (content .from ≤ content .to) × (content .to ≤ length (now area)) ⌝ }
+    ensures { λ r. ⌜ r ≡ arrayOk left (tag, slice (content .from) (content .to) (now (area .entry))) ⌝ }
 {
     if tag == 1 {
-        check_trees(s, from, to, left)
+        check_trees(area, content, left)
     } else {
         false
     }
 }
 
 /// A label as a number, to be set beside its limit.
-fn label_number(k: u16) -> usize
-    ensures { λ r. ⌜ r ≡ k ⌝ }
+fn label_number(label: u16) -> usize
+    ensures { λ r. ⌜ r ≡ label ⌝ }
 {
-    k as usize
+    label as usize
 }
 
 /// One array field that spans all the bytes: nothing before it, nothing behind it.
@@ -190,7 +201,12 @@ fn check_input(bytes: &[u8]) -> bool
 {
     let h = view::spanning(bytes);
     match h {
-        Head::Field { tag, from, to } => check_array_field(bytes, tag, from, to, Limits::DEPTH),
+        Head::Field { tag, from, to } => check_array_field(
+            bytes,
+            tag,
+            Span { from, to },
+            Limits::DEPTH,
+        ),
         Head::Nothing => false,
     }
 }

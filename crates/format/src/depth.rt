@@ -3,58 +3,66 @@
 ghost use lib.Dec.{leb};
 ghost use Rattle.spec_trees.specs.Size.{depthA, depthL};
 ghost use Rattle.format.specs.Stand.{treesBytes, labelsBytes, Holds, Says};
+use crate::labels::trees_at;
 use areas::area::field_end;
+use areas::span::Span;
 
 /// The bytes of a level: the heads of a tree, of its root, of a label and of its array, and the label. The last level
 /// takes 7 bytes less.
 const LEVEL: usize = 13;
 
-/// Whether the trees that stand from p to e take at most `left` levels. Most have too few bytes for more.
-pub fn within_depth(s: &[u8], p: usize, e: usize, left: usize) -> bool
-    requires { ⌜ Holds treesBytes (now s) p e ⌝ }
-    ensures { λ r. ⌜ Says treesBytes (λ ts. leb (depthA ts) left) (now (s .entry)) p e r ⌝ }
+/// Whether the trees that stand at a place take at most `left` levels. Most have too few bytes for more.
+pub fn within_depth(area: &[u8], trees: Span, left: usize) -> bool
+    requires { ⌜ Holds treesBytes (now area) (trees .from) (trees .to) ⌝ }
+    ensures { λ r. ⌜ Says treesBytes (λ ts. leb (depthA ts) left) (now (area .entry)) (trees .from) (trees .to) r ⌝ }
 {
-    if (e - p + 7) / LEVEL <= left {
+    if (trees.to - trees.from + 7) / LEVEL <= left {
         return true;
     }
-    trees_within(s, p, e, left)
+    trees_within(area, trees, left)
 }
 
 /// The same by a walk, where they have bytes enough for more.
-fn trees_within(s: &[u8], p: usize, e: usize, left: usize) -> bool
-    requires { ⌜ Holds treesBytes (now s) p e ⌝ }
-    ensures { λ r. ⌜ Says treesBytes (λ ts. leb (depthA ts) left) (now (s .entry)) p e r ⌝ }
+fn trees_within(area: &[u8], trees: Span, left: usize) -> bool
+    requires { ⌜ Holds treesBytes (now area) (trees .from) (trees .to) ⌝ }
+    ensures { λ r. ⌜ Says treesBytes (λ ts. leb (depthA ts) left) (now (area .entry)) (trees .from) (trees .to) r ⌝ }
 {
+    let end = trees.to;
+    let mut at = trees.from;
     if left == 0 {
-        return p == e;
+        return at == end;
     }
-    if (e - p + 7) / LEVEL <= left {
+    if (end - at + 7) / LEVEL <= left {
         return true;
     }
-    let mut i = p;
-    while i != e {
-        let m = field_end(s, i);
-        let l = field_end(s, i + 3);
-        if !labels_within(s, l, m, left - 1) {
+    while at != end {
+        let m = field_end(area, at);
+        let l = field_end(area, at + 3);
+        if !labels_within(area, Span { from: l, to: m }, left - 1) {
             return false;
         }
-        i = m;
+        at = m;
     }
     true
 }
 
-/// Whether the trees under the labels that stand from p to e take at most `left` levels.
-fn labels_within(s: &[u8], p: usize, e: usize, left: usize) -> bool
-    requires { ⌜ Holds labelsBytes (now s) p e ⌝ }
-    ensures { λ r. ⌜ Says labelsBytes (λ ls. leb (depthL ls) left) (now (s .entry)) p e r ⌝ }
+/// Whether the trees under the labels that stand at a place take at most `left` levels.
+fn labels_within(area: &[u8], labels: Span, left: usize) -> bool
+    requires { ⌜ Holds labelsBytes (now area) (labels .from) (labels .to) ⌝ }
+    ensures { λ r. ⌜ Says labelsBytes (λ ls. leb (depthL ls) left) (now (area .entry)) (labels .from) (labels .to) r ⌝ }
 {
-    let mut i = p;
-    while i != e {
-        let m = field_end(s, i);
-        if !trees_within(s, i + 7, m, left) {
+    let end = labels.to;
+    let mut at = labels.from;
+    while at != end {
+        let m = field_end(area, at);
+        let trees = Span {
+            from: trees_at(area, at),
+            to: m,
+        };
+        if !trees_within(area, trees, left) {
             return false;
         }
-        i = m;
+        at = m;
     }
     true
 }

@@ -15,33 +15,33 @@ pub struct Field<'a> {
 }
 
 /// The head of the field that spans the first `span` bytes: the work behind the view.
-fn span_head(s: &[u8], span: usize) -> Head
-    ensures { λ r. ⌜ r ≡ spanOf (now (s .entry)) span ⌝ }
+fn span_head(area: &[u8], span: usize) -> Head
+    ensures { λ r. ⌜ r ≡ spanOf (now (area .entry)) span ⌝ }
 {
-    if span <= s.len() {
-        head::spanning_at(s, 0, span)
+    if span <= area.len() {
+        head::spanning_at(area, 0, span)
     } else {
         Head::Nothing
     }
 }
 
 /// The head of a view's field. By hand: the view is taken apart.
-pub fn head_of<'a>(f: Field<'a>) -> Head
-    ensures { λ r. ⌜ r ≡ spanOf (now (f .entry .bytes)) (f .entry .span) ⌝ }
+pub fn head_of<'a>(field: Field<'a>) -> Head
+    ensures { λ r. ⌜ r ≡ spanOf (now (field .entry .bytes)) (field .entry .span) ⌝ }
 {
-    span_head(f.bytes, f.span)
+    span_head(field.bytes, field.span)
 }
 
 /// The same of a slice and a number. By hand: a view is made and passed on.
-pub fn view_head(s: &[u8], span: usize) -> Head
-    ensures { λ r. ⌜ r ≡ spanOf (now (s .entry)) span ⌝ }
+pub fn view_head(area: &[u8], span: usize) -> Head
+    ensures { λ r. ⌜ r ≡ spanOf (now (area .entry)) span ⌝ }
 {
-    head_of(Field { bytes: s, span })
+    head_of(Field { bytes: area, span })
 }
 
 /// The one field that an input is: it spans all the bytes, so that nothing trails.
-pub fn spanning(s: &[u8]) -> Head
-    ensures { λ r. ⌜ r ≡ spanAt (now (s .entry)) 0 (length (now (s .entry))) ⌝ }
+pub fn spanning(area: &[u8]) -> Head
+    ensures { λ r. ⌜ r ≡ spanAt (now (area .entry)) 0 (length (now (area .entry))) ⌝ }
 {
-    view_head(s, s.len())
+    view_head(area, area.len())
 }

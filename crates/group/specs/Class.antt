@@ -9,27 +9,29 @@ use Rattle.spec_trees.specs.Lists.{filter}
 use Rattle.spec_trees.specs.Tree.{Tree}
 use Rattle.spec_trees.specs.Bytes.{treeBytes}
 use Rattle.spec_trees.specs.Within.{Allowed, AllowedA}
-use Rattle.areas.specs.Area.{Is}
+use Rattle.areas.specs.Area.{Is, IsAt}
+use Rattle.areas.specs.declared.span.Span.{Span}
 use Rattle.spec_queries.specs.Query.{Pair}
 use Rattle.spec_queries.specs.Rules.{OkPairs}
-use Rattle.queries.specs.Places.{pairsBytes, arrayTrees, HoldsOk}
+use Rattle.queries.specs.Places.{pairsBytes, arrayTrees, HoldsOk, OkAt}
+use Rattle.queries.specs.declared.stage.GroupAt.{GroupAt}
 use Rattle.spec_stages.specs.Group.{alike, classTree}
 use Rattle.build.specs.Made.{Made}
 
--- in q the aggregates stand from ag to age, the grouping pairs from g to ge; in w the first tree of the class stands
--- from x to xe, and the trees behind it up to b, below s; from s on there are three rooms
-pub record ClassReady (w q : List ℕ) (ag age g ge x xe b s : ℕ) : Type 0 where
-  pub aggregates : HoldsOk (OkPairs aggregatesMax) pairsBytes q ag age
-  pub grouping : HoldsOk (OkPairs groupingMax) pairsBytes q g ge
-  pub first : HoldsOk (Allowed depthMax) treeBytes w x xe
-  pub rest : HoldsOk AllowedA arrayTrees w xe b
-  pub below : b ≤ s
+-- in q the group's pairs stand; in w the first tree of the class, and the trees behind it up to `end`, below s; from s on
+-- there are three rooms
+pub record ClassReady (w q : List ℕ) (at : GroupAt) (firstAt : Span) (end s : ℕ) : Type 0 where
+  pub aggregates : OkAt (OkPairs aggregatesMax) pairsBytes q (at .aggregates)
+  pub grouping : OkAt (OkPairs groupingMax) pairsBytes q (at .keys)
+  pub first : OkAt (Allowed depthMax) treeBytes w firstAt
+  pub rest : HoldsOk AllowedA arrayTrees w (firstAt .to) end
+  pub below : end ≤ s
   pub room : s + 3 * treeMax ≤ length w
   pub small : length w ≤ workMin
 
 -- the tree of the class, of whatever pairs and trees stand there, was made at s
-abbrev pub MakesClass : (w v q : List ℕ) (ag age g ge x xe b s : ℕ) → Out → Type 0
-MakesClass w v q ag age g ge x xe b s r = (ags gs : List Pair) (t : Tree) (ts : List Tree)
-    → OkPairs aggregatesMax ags → Is q ag age (pairsBytes ags) → OkPairs groupingMax gs → Is q g ge (pairsBytes gs)
-    → Allowed depthMax t → Is w x xe (treeBytes t) → AllowedA ts → Is w xe b (arrayTrees ts)
+abbrev pub MakesClass : (w v q : List ℕ) (at : GroupAt) (firstAt : Span) (end s : ℕ) → Out → Type 0
+MakesClass w v q at firstAt end s r = (ags gs : List Pair) (t : Tree) (ts : List Tree)
+    → OkPairs aggregatesMax ags → IsAt q (at .aggregates) (pairsBytes ags) → OkPairs groupingMax gs → IsAt q (at .keys) (pairsBytes gs)
+    → Allowed depthMax t → IsAt w firstAt (treeBytes t) → AllowedA ts → Is w (firstAt .to) end (arrayTrees ts)
     → Made w v s (classTree ags gs (t, filter (alike gs t) ts)) r

@@ -13,11 +13,13 @@ use Rattle.spec_trees.specs.Lists.{filter, All, gather}
 use Rattle.spec_trees.specs.Tree.{Tree, bareVoid}
 use Rattle.spec_trees.specs.Bytes.{treeBytes}
 use Rattle.spec_trees.specs.Within.{Allowed, AllowedA}
-use Rattle.areas.specs.Area.{Is, Wrote}
+use Rattle.areas.specs.Area.{Is, Wrote, IsAt, span}
+use Rattle.areas.specs.declared.span.Span.{Span}
 use Rattle.spec_queries.specs.Query.{Pair}
 use Rattle.spec_queries.specs.Rules.{OkPair, OkPairs}
 use Rattle.queries.specs.Places.{pairsBytes, arrayTrees, HoldsOk}
 use Rattle.spec_stages.specs.Merge.{build}
+use Rattle.queries.specs.declared.stage.GroupAt.{GroupAt}
 use Rattle.spec_stages.specs.Group.{alike, aggregated, identified, sourced, Class, classTree}
 use Rattle.group.specs.Grow.{aggregateValue, identityValue, onePart, sourcedPart, FirstAt, ClassAt, Grown, PairsReady, PairsGrow}
 use Rattle.group.specs.GrowLaws.{grown-void, grown-stop, grown-next, grown-made}
@@ -54,7 +56,7 @@ classOf gs t ts = (t, filter (alike gs t) ts)
 
 module _ {w q : List ℕ} {g ge x xe b s : ℕ} where
   class-there : (gs : List Pair) (t : Tree) (ts : List Tree) → Is q g ge (pairsBytes gs) → Allowed depthMax t → Is w x xe (treeBytes t)
-      → AllowedA ts → Is w xe b (arrayTrees ts) → b ≤ s → ClassAt q g ge x xe b s w (classOf gs t ts)
+      → AllowedA ts → Is w xe b (arrayTrees ts) → b ≤ s → ClassAt q (span g ge) (span x xe) b s w (classOf gs t ts)
   class-there gs t ts hg ot ht os hs l = record {
     pairs = gs;
     rest = ts;
@@ -67,15 +69,15 @@ module _ {w q : List ℕ} {g ge x xe b s : ℕ} where
     below = l;
   }
 
-  first-there : (c : Class) → ClassAt q g ge x xe b s w c → FirstAt x xe s w c
+  first-there : (c : Class) → ClassAt q (span g ge) (span x xe) b s w c → FirstAt (span x xe) s w c
   first-there c h = record { allowed = h .allowed; first-is = h .first-is; below = omega (arith, h .below, h .rest-is .ends) }
 
-module _ {w q : List ℕ} {ag age g ge x xe b s : ℕ} (h : ClassReady w q ag age g ge x xe b s) {w1 : List ℕ} {z : ℕ} (l : length w1 ≡ length w)
+module _ {w q : List ℕ} {at : GroupAt} {x xe b s : ℕ} (h : ClassReady w q at (span x xe) b s) {w1 : List ℕ} {z : ℕ} (l : length w1 ≡ length w)
     (k : Wrote w w1 s (s + treeMax) (treeBytes bareVoid) (At z)) where
   abbrev start : Grown w w1 s bareVoid [] (At z)
   start = grown-void (h .room) k
 
-  pub class-ready : PairsReady (ClassAt q g ge x xe b s) w1 q ag age s z
+  pub class-ready : PairsReady (ClassAt q (at .keys) (span x xe) b s) w1 q (at .aggregates) (span s z)
   class-ready =
       let a = h .first in
       let r = h .rest in
@@ -92,9 +94,9 @@ module _ {w q : List ℕ} {ag age g ge x xe b s : ℕ} (h : ClassReady w q ag ag
         small = omega (arith, h .small);
       }
 
-  module _ {w2 : List ℕ} {r : Out} (j : PairsGrow (ClassAt q g ge x xe b s) (onePart aggregateValue) w1 w2 q ag age s z r) where
+  module _ {w2 : List ℕ} {r : Out} (j : PairsGrow (ClassAt q (at .keys) (span x xe) b s) (onePart aggregateValue) w1 w2 q (at .aggregates) (span s z) r) where
     -- the aggregates were built in, of whatever stands there
-    aggregates-grown : (ags gs : List Pair) (t : Tree) (ts : List Tree) → OkPairs aggregatesMax ags → Is q ag age (pairsBytes ags) → Is q g ge (pairsBytes gs)
+    aggregates-grown : (ags gs : List Pair) (t : Tree) (ts : List Tree) → OkPairs aggregatesMax ags → IsAt q (at .aggregates) (pairsBytes ags) → IsAt q (at .keys) (pairsBytes gs)
         → Allowed depthMax t → Is w x xe (treeBytes t) → AllowedA ts → Is w xe b (arrayTrees ts)
         → Grown w w2 s bareVoid (gather (onePart aggregateValue (classOf gs t ts)) ags) r
     aggregates-grown ags gs t ts oa ha hg ot ht os hs =
@@ -102,13 +104,13 @@ module _ {w q : List ℕ} {ag age g ge x xe b s : ℕ} (h : ClassReady w q ag ag
         grown-next start (gather (onePart aggregateValue (classOf gs t ts)) ags) refl
         (λ y oy hy. j (classOf gs t ts) ags y there (oa .0) ha oy hy)
 
-    pub class-stop : r ≡ TooLarge → MakesClass w w2 q ag age g ge x xe b s TooLarge
+    pub class-stop : r ≡ TooLarge → MakesClass w w2 q at (span x xe) b s TooLarge
     class-stop y ags gs t ts oa ha og hg ot ht os hs =
         grown-made (class-parts ags gs (classOf gs t ts))
         (grown-stop (aggregates-grown ags gs t ts oa ha hg ot ht os hs) (gather (sourcedPart (classOf gs t ts)) gs) y)
 
     module _ {i : ℕ} (y : r ≡ At i) where
-      pub identities-ready : length w2 ≡ length w1 → PairsReady (FirstAt x xe s) w2 q g ge s i
+      pub identities-ready : length w2 ≡ length w1 → PairsReady (FirstAt (span x xe) s) w2 q (at .keys) (span s i)
       identities-ready l2 =
           let a = class-ready in
           let n = j (a .members) (a .asked .value) (a .whole .tree) (a .there) (a .asked .allowed) (a .asked .value-is) (a .whole .ok) (a .whole .tree-is) in
@@ -123,7 +125,7 @@ module _ {w q : List ℕ} {ag age g ge x xe b s : ℕ} (h : ClassReady w q ag ag
             small = omega (arith, h .small);
           }
 
-      pub class-made : {w3 : List ℕ} {o : Out} → PairsGrow (FirstAt x xe s) sourcedPart w2 w3 q g ge s i o → MakesClass w w3 q ag age g ge x xe b s o
+      pub class-made : {w3 : List ℕ} {o : Out} → PairsGrow (FirstAt (span x xe) s) sourcedPart w2 w3 q (at .keys) (span s i) o → MakesClass w w3 q at (span x xe) b s o
       class-made {w3} {o} k2 ags gs t ts oa ha og hg ot ht os hs =
           let n = aggregates-grown ags gs t ts oa ha hg ot ht os hs in
           let there = first-keep (classOf gs t ts) (n .below) (first-there (classOf gs t ts) (class-there gs t ts hg ot ht os hs (h .below))) in

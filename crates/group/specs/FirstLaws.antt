@@ -11,7 +11,8 @@ use Rattle.spec_trees.specs.ListLaws.{All-append}
 use Rattle.spec_trees.specs.Tree.{Tree}
 use Rattle.spec_trees.specs.Bytes.{treeBytes}
 use Rattle.spec_trees.specs.Within.{Allowed, AllowedA}
-use Rattle.areas.specs.Area.{Is, fieldEnd}
+use Rattle.areas.specs.Area.{Is, fieldEnd, span}
+use Rattle.areas.specs.declared.span.Span.{Span}
 use Rattle.areas.specs.AreaLaws.{is-join}
 use Rattle.format.specs.StandLaws.{is-alone}
 use Rattle.queries.specs.TreesLaws.{array-parts, array-none}
@@ -28,12 +29,12 @@ module _ {w : List ℕ} {p m e : ℕ} where
 
 -- ---- unlike all before it: none, or the first tree and the rest
 module _ (w q : List ℕ) (g ge at x xe : ℕ) where
-  pub unlike-none : at ≡ x → UnlikeIs w q g ge at x xe true
+  pub unlike-none : at ≡ x → UnlikeIs w q (span g ge) at (span x xe) true
   unfolding unlike all
   unlike-none z gs seen t hg os hs ot ht = subst (λ l. true ≡ unlike gs l t) (sym (array-none seen z hs)) refl
 
-  module _ {m : ℕ} {o : Bool} (n : at ≡ x → ⊥) (z : m ≡ fieldEnd w at) (k : AlikeIs q g ge w at m w x xe o) where
-    pub unlike-found : o ≡ true → UnlikeIs w q g ge at x xe false
+  module _ {m : ℕ} {o : Bool} (n : at ≡ x → ⊥) (z : m ≡ fieldEnd w at) (k : AlikeIs q (span g ge) w (span at m) w (span x xe) o) where
+    pub unlike-found : o ≡ true → UnlikeIs w q (span g ge) at (span x xe) false
     unfolding unlike all
     unlike-found y gs seen t hg os hs ot ht =
         let c = array-parts seen z n hs in
@@ -41,7 +42,7 @@ module _ (w q : List ℕ) (g ge at x xe : ℕ) where
         let e = sym (k gs (c .first) t hg (oc .0) (c .first-is) ot ht) ∙ y in
         sym (ap (λ b. not b && unlike gs (c .rest) t) e) ∙ sym (ap (λ l. unlike gs l t) (c .same))
 
-    pub unlike-next : o ≡ false → (r : Bool) → UnlikeIs w q g ge m x xe r → UnlikeIs w q g ge at x xe r
+    pub unlike-next : o ≡ false → (r : Bool) → UnlikeIs w q (span g ge) m (span x xe) r → UnlikeIs w q (span g ge) at (span x xe) r
     unfolding unlike all
     unlike-next y r j gs seen t hg os hs ot ht =
         let c = array-parts seen z n hs in
@@ -51,14 +52,14 @@ module _ (w q : List ℕ) (g ge at x xe : ℕ) where
         ∙ sym (ap (λ b. not b && unlike gs (c .rest) t) e) ∙ sym (ap (λ l. unlike gs l t) (c .same))
 
 -- ---- the beginning of a class
-module _ {w q : List ℕ} {g ge x xe k : ℕ} (h : SubsetIs q g ge w x xe k) (a m : ℕ) where
-  pub begins-other : (k ≡ m → ⊥) → BeginsIs w q g ge a x xe m false
+module _ {w q : List ℕ} {g ge x xe k : ℕ} (h : SubsetIs q (span g ge) w (span x xe) k) (a m : ℕ) where
+  pub begins-other : (k ≡ m → ⊥) → BeginsIs w q (span g ge) a (span x xe) m false
   unfolding begins unlike
   begins-other n gs seen t hg os hs ot ht =
       let e = sym (h gs t hg ht) in
       sym (ap (λ i. eqb i m && unlike gs seen t) e ∙ ap (λ b. b && unlike gs seen t) (ne-eqb k m n))
 
-  pub begins-first : {r : Bool} → k ≡ m → UnlikeIs w q g ge a x xe r → BeginsIs w q g ge a x xe m r
+  pub begins-first : {r : Bool} → k ≡ m → UnlikeIs w q (span g ge) a (span x xe) r → BeginsIs w q (span g ge) a (span x xe) m r
   unfolding begins unlike
   begins-first {r} y j gs seen t hg os hs ot ht =
       let e = sym (h gs t hg ht) in

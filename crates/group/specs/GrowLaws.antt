@@ -16,7 +16,8 @@ use Rattle.spec_trees.specs.Tree.{Tree, bareVoid}
 use Rattle.spec_trees.specs.Size.{size, depth, fits}
 use Rattle.spec_trees.specs.Bytes.{treeBytes}
 use Rattle.spec_trees.specs.Within.{Ok}
-use Rattle.areas.specs.Area.{Is, Wrote, fieldEnd}
+use Rattle.areas.specs.Area.{Is, Wrote, fieldEnd, span}
+use Rattle.areas.specs.declared.span.Span.{Span}
 use Rattle.areas.specs.AreaLaws.{drop-more, wrote-keep, written}
 use Rattle.spec_trees.specs.OptionLaws.{true-T, T-and}
 use Rattle.spec_queries.specs.Query.{Pair}
@@ -124,13 +125,13 @@ grown-made y h = record {
 
 -- ---- pairs, one behind another: a class stands as C says, and stays while all below s does
 module _ (C : List ℕ → Class → Type 0) (f : Class → Pair → List Tree) (q : List ℕ) (p e : ℕ) (w : List ℕ) (s se : ℕ) where
-  pub pairs-done : p ≡ e → se ≤ s + treeMax → PairsGrow C f w w q p e s se (At se)
+  pub pairs-done : p ≡ e → se ≤ s + treeMax → PairsGrow C f w w q (span p e) (span s se) (At se)
   unfolding gather
   pairs-done y l c ps z hc op hp oz hz =
       subst (λ i. Grown w w s z (gather (f c) i) (At se)) (sym (list-none pairF ps y hp)) (grown-none z oz hz l)
 
   module _ (n : p ≡ e → ⊥) {m : ℕ} (g : m ≡ fieldEnd q p) where
-    pub pairs-first : PairsReady C w q p e s se → PairReady C w q p m s se
+    pub pairs-first : PairsReady C w q (span p e) (span s se) → PairReady C w q (span p m) (span s se)
     pairs-first h = record {
       members = h .members;
       there = h .there;
@@ -141,8 +142,8 @@ module _ (C : List ℕ → Class → Type 0) (f : Class → Pair → List Tree) 
       small = h .small;
     }
 
-    module _ {u : List ℕ} {r : Out} (k : PairGrows C f w u q p m s se r) where
-      pub pairs-stop : r ≡ TooLarge → PairsGrow C f w u q p e s se TooLarge
+    module _ {u : List ℕ} {r : Out} (k : PairGrows C f w u q (span p m) (span s se) r) where
+      pub pairs-stop : r ≡ TooLarge → PairsGrow C f w u q (span p e) (span s se) TooLarge
       unfolding gather
       pairs-stop y c ps z hc op hp oz hz =
           let a = list-parts pairF ps g n hp in
@@ -151,7 +152,7 @@ module _ (C : List ℕ → Class → Type 0) (f : Class → Pair → List Tree) 
           (grown-stop (k c (a .first) z hc (oa .0) (a .first-is) oz hz) (gather (f c) (a .rest)) y)
 
       module _ (keep : (c : Class) → take s u ≡ take s w → C w c → C u c) {i : ℕ} (y : r ≡ At i) where
-        pub pairs-rest : PairsReady C w q p e s se → length u ≡ length w → PairsReady C u q m e s i
+        pub pairs-rest : PairsReady C w q (span p e) (span s se) → length u ≡ length w → PairsReady C u q (span m e) (span s i)
         pairs-rest h l =
             let a = ok-list-first pairF n g OkPair (h .asked) in
             let j = k (h .members) (a .value) (h .whole .tree) (h .there) (a .allowed) (a .value-is) (h .whole .ok) (h .whole .tree-is) in
@@ -166,7 +167,7 @@ module _ (C : List ℕ → Class → Type 0) (f : Class → Pair → List Tree) 
               small = omega (arith, h .small);
             }
 
-        pub pairs-next : (x : List ℕ) (o : Out) → PairsGrow C f u x q m e s i o → PairsGrow C f w x q p e s se o
+        pub pairs-next : (x : List ℕ) (o : Out) → PairsGrow C f u x q (span m e) (span s i) o → PairsGrow C f w x q (span p e) (span s se) o
         unfolding gather
         pairs-next x o k2 c ps z hc op hp oz hz =
             let a = list-parts pairF ps g n hp in

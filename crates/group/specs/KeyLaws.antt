@@ -7,33 +7,34 @@ use native.Mathlib.Omega.{arith}
 use lib.ListN.{length}
 use Rattle.spec_trees.specs.Limits.{groupingMax}
 use Rattle.spec_trees.specs.Bytes.{treeBytes}
-use Rattle.areas.specs.Area.{Is, fieldEnd}
+use Rattle.areas.specs.Area.{Is, fieldEnd, IsAt, span}
+use Rattle.areas.specs.declared.span.Span.{Span}
 use Rattle.format.specs.Stand.{Holds}
 use Rattle.spec_queries.specs.Query.{Pair}
 use Rattle.spec_queries.specs.Bytes.{pairF}
 use Rattle.spec_queries.specs.Rules.{OkPairs}
-use Rattle.queries.specs.Places.{pairBytes, pairsBytes, HoldsOk, PairIs, ReadsPair}
+use Rattle.queries.specs.Places.{routeBytes, pairBytes, pairsBytes, HoldsOk, PairIs, ReadsPair}
 use Rattle.queries.specs.PartLaws.{list-parts, list-none}
 use Rattle.queries.specs.declared.item.PairAt.{PairAt}
 use Rattle.spec_stages.specs.Paths.{present, apply}
 use Rattle.spec_stages.specs.Group.{key, sameKey, sum, alike}
-use Rattle.paths.specs.Walk.{Walk, Tells, EqualPaths}
+use Rattle.paths.specs.Walk.{Walk, Tells, application, EqualPaths}
 use Rattle.paths.specs.WalkLaws.{walk-at}
 use Rattle.group.specs.Keys.{FewPairs, SourcedIs, SameSourceIs, SubsetIs, AlikeIs}
 
 -- ---- the source of a pair
-pub pair-source : {q : List ℕ} {p e : ℕ} {x : Pair} {r : PairAt} → PairIs q p e x r → Is q (r .source) (r .«source_end») (x .source)
-pair-source {q} {r = r} k = subst (Is q (r .source) (r .«source_end»)) (sym (ap (λ y. y .source) (k .same))) (k .first-is)
+pub pair-source : {q : List ℕ} {p e : ℕ} {x : Pair} {r : PairAt} → PairIs q (span p e) x r → IsAt q (r .source) (routeBytes (x .source))
+pair-source {q} {r = r} k = subst (λ y. IsAt q (r .source) (routeBytes y)) (sym (ap (λ y. y .source) (k .same))) (k .first-is)
 
-module _ {q : List ℕ} {p e : ℕ} {r : PairAt} (reads : ReadsPair q p e r) {s : List ℕ} {a b : ℕ} where
-  pub pair-walk : Holds pairBytes q p e → Holds treeBytes s a b → Walk treeBytes q (r .source) (r .«source_end») 0 s a b
-  pair-walk h k = walk-at (k .value) (pair-source (reads (h .value) (h .value-is))) (k .value-is)
+module _ {q : List ℕ} {p e : ℕ} {r : PairAt} (reads : ReadsPair q (span p e) r) {s : List ℕ} {a b : ℕ} where
+  pub pair-walk : Holds pairBytes q p e → Holds treeBytes s a b → Walk treeBytes q (r .source) 0 s (span a b)
+  pair-walk h k = walk-at (h .value .source) (k .value) (pair-source (reads (h .value) (h .value-is))) (k .value-is)
 
-  pub sourced-is : {o : Bool} → Tells q (r .source) (r .«source_end») 0 s a b (λ y. o ≡ present y) → SourcedIs q p e s a b o
+  pub sourced-is : {o : Bool} → Tells q (r .source) 0 s (span a b) (λ y. o ≡ present y) → SourcedIs q (span p e) s (span a b) o
   sourced-is k x t g h = k (x .source) t (pair-source (reads x g)) h
 
-  pub same-source-is : {s2 : List ℕ} {a2 b2 : ℕ} {o : Bool} → EqualPaths q (r .source) (r .«source_end») (r .source) (r .«source_end») s a b s2 a2 b2 o
-      → SameSourceIs q p e s a b s2 a2 b2 o
+  pub same-source-is : {s2 : List ℕ} {a2 b2 : ℕ} {o : Bool} → EqualPaths q s (application (r .source) (span a b)) s2 (application (r .source) (span a2 b2)) o
+      → SameSourceIs q (span p e) s (span a b) s2 (span a2 b2) o
   same-source-is k x t u g ot h ou i = let l = pair-source (reads x g) in k (x .source) (x .source) t u l l ot h ou i
 
 -- ---- the weights of few pairs are small
@@ -72,12 +73,12 @@ few-pairs h = record { value = h .value; allowed = h .allowed .1; value-is = h .
 
 -- ---- the sum: none, or the first pair and the rest
 module _ (q : List ℕ) (at ge : ℕ) (s : List ℕ) (a b : ℕ) where
-  subset-none : at ≡ ge → SubsetIs q at ge s a b 0
+  subset-none : at ≡ ge → SubsetIs q (span at ge) s (span a b) 0
   unfolding sum key
   subset-none z gs t g h = subst (λ l. 0 ≡ sum (key l t)) (sym (list-none pairF gs z g)) refl
 
-  subset-next : {m : ℕ} {o : Bool} → (at ≡ ge → ⊥) → m ≡ fieldEnd q at → SourcedIs q at m s a b o → (n : ℕ) → SubsetIs q m ge s a b n
-      → SubsetIs q at ge s a b (cond o 1 0 + 2 * n)
+  subset-next : {m : ℕ} {o : Bool} → (at ≡ ge → ⊥) → m ≡ fieldEnd q at → SourcedIs q (span at m) s (span a b) o → (n : ℕ) → SubsetIs q (span m ge) s (span a b) n
+      → SubsetIs q (span at ge) s (span a b) (cond o 1 0 + 2 * n)
   unfolding sum key
   subset-next k z i n j gs t g h =
       let c = list-parts pairF gs z k g in
@@ -90,33 +91,33 @@ weight-doubled : (o : Bool) (c sum w n : ℕ) → c ≡ cond o w 0 → sum + w *
 weight-doubled true c sum w n z = omega arith
 weight-doubled false c sum w n z = omega arith
 
-module _ (q : List ℕ) (g at ge : ℕ) (s : List ℕ) (a b total w : ℕ) (inv : (n : ℕ) → SubsetIs q at ge s a b n → SubsetIs q g ge s a b (total + w * n)) where
-  pub subset-end : at ≡ ge → SubsetIs q g ge s a b total
-  subset-end z = let y : total + w * 0 ≡ total = omega arith in subst (SubsetIs q g ge s a b) y (inv 0 (subset-none q at ge s a b z))
+module _ (q : List ℕ) (g at ge : ℕ) (s : List ℕ) (a b total w : ℕ) (inv : (n : ℕ) → SubsetIs q (span at ge) s (span a b) n → SubsetIs q (span g ge) s (span a b) (total + w * n)) where
+  pub subset-end : at ≡ ge → SubsetIs q (span g ge) s (span a b) total
+  subset-end z = let y : total + w * 0 ≡ total = omega arith in subst (SubsetIs q (span g ge) s (span a b)) y (inv 0 (subset-none q at ge s a b z))
 
-  pub subset-on : {m c : ℕ} {o : Bool} → (at ≡ ge → ⊥) → m ≡ fieldEnd q at → SourcedIs q at m s a b o → c ≡ cond o w 0
-      → (n : ℕ) → SubsetIs q m ge s a b n → SubsetIs q g ge s a b (total + c + (w + w) * n)
+  pub subset-on : {m c : ℕ} {o : Bool} → (at ≡ ge → ⊥) → m ≡ fieldEnd q at → SourcedIs q (span at m) s (span a b) o → c ≡ cond o w 0
+      → (n : ℕ) → SubsetIs q (span m ge) s (span a b) n → SubsetIs q (span g ge) s (span a b) (total + c + (w + w) * n)
   subset-on {c = c} {o = o} k z i y n j =
-      subst (SubsetIs q g ge s a b) (weight-doubled o c total w n y) (inv (cond o 1 0 + 2 * n) (subset-next q at ge s a b k z i n j))
+      subst (SubsetIs q (span g ge) s (span a b)) (weight-doubled o c total w n y) (inv (cond o 1 0 + 2 * n) (subset-next q at ge s a b k z i n j))
 
 -- before the first pair
-pub subset-start : (q : List ℕ) (g ge : ℕ) (s : List ℕ) (a b n : ℕ) → SubsetIs q g ge s a b n → SubsetIs q g ge s a b (0 + 1 * n)
-subset-start q g ge s a b n h = let y : n ≡ 0 + 1 * n = omega arith in subst (SubsetIs q g ge s a b) y h
+pub subset-start : (q : List ℕ) (g ge : ℕ) (s : List ℕ) (a b n : ℕ) → SubsetIs q (span g ge) s (span a b) n → SubsetIs q (span g ge) s (span a b) (0 + 1 * n)
+subset-start q g ge s a b n h = let y : n ≡ 0 + 1 * n = omega arith in subst (SubsetIs q (span g ge) s (span a b)) y h
 
 -- ---- equal source values: none, or the first pair and the rest
 module _ (q : List ℕ) (at ge : ℕ) (s : List ℕ) (a b : ℕ) (s2 : List ℕ) (a2 b2 : ℕ) where
-  pub alike-none : at ≡ ge → AlikeIs q at ge s a b s2 a2 b2 true
+  pub alike-none : at ≡ ge → AlikeIs q (span at ge) s (span a b) s2 (span a2 b2) true
   unfolding alike sameKey key
   alike-none z gs t u g ot h ou i = subst (λ l. true ≡ alike l t u) (sym (list-none pairF gs z g)) refl
 
-  module _ {m : ℕ} {o : Bool} (k : at ≡ ge → ⊥) (z : m ≡ fieldEnd q at) (d : SameSourceIs q at m s a b s2 a2 b2 o) where
-    pub alike-other : o ≡ false → AlikeIs q at ge s a b s2 a2 b2 false
+  module _ {m : ℕ} {o : Bool} (k : at ≡ ge → ⊥) (z : m ≡ fieldEnd q at) (d : SameSourceIs q (span at m) s (span a b) s2 (span a2 b2) o) where
+    pub alike-other : o ≡ false → AlikeIs q (span at ge) s (span a b) s2 (span a2 b2) false
     unfolding alike sameKey key
     alike-other y gs t u g ot h ou i =
         let c = list-parts pairF gs z k g in
         sym (ap (λ w. w && alike (c .rest) t u) (sym (d (c .first) t u (c .first-is) ot h ou i) ∙ y)) ∙ sym (ap (λ l. alike l t u) (c .same))
 
-    pub alike-next : o ≡ true → (r : Bool) → AlikeIs q m ge s a b s2 a2 b2 r → AlikeIs q at ge s a b s2 a2 b2 r
+    pub alike-next : o ≡ true → (r : Bool) → AlikeIs q (span m ge) s (span a b) s2 (span a2 b2) r → AlikeIs q (span at ge) s (span a b) s2 (span a2 b2) r
     unfolding alike sameKey key
     alike-next y r j gs t u g ot h ou i =
         let c = list-parts pairF gs z k g in

@@ -11,7 +11,8 @@ use Rattle.spec_trees.specs.Lists.{filter}
 use Rattle.spec_trees.specs.Tree.{Tree}
 use Rattle.spec_trees.specs.Bytes.{treeBytes}
 use Rattle.spec_trees.specs.Within.{Allowed, AllowedA}
-use Rattle.areas.specs.Area.{fieldEnd}
+use Rattle.areas.specs.Area.{fieldEnd, span}
+use Rattle.areas.specs.declared.span.Span.{Span}
 use Rattle.areas.specs.AreaLaws.{is-keep}
 use Rattle.queries.specs.Places.{arrayTrees}
 use Rattle.spec_stages.specs.Paths.{Given, join, joins, over, apply}
@@ -28,22 +29,22 @@ use Rattle.spec_stages.specs.ClassesLaws.{alike-self}
 use Rattle.queries.specs.TreesLaws.{array-parts, array-none, array-before, array-first, array-rest}
 
 -- ---- one tree
-module _ {w q : List ℕ} {g ge p e x xe a b d stop : ℕ} where
-  pub member-walk : MembersReady (Allowed depthMax) treeBytes w q g ge p e x xe a b d stop → WalkReady treeBytes q p e 0 w a b d stop 0
+module _ {w q : List ℕ} {g ge : ℕ} {p : Span} {x xe a b d stop : ℕ} where
+  pub member-walk : MembersReady (Allowed depthMax) treeBytes w q (span g ge) p (span x xe) (span a b) (span d stop) → WalkReady treeBytes q p 0 w (span a b) (span d stop) 0
   member-walk h = record {
-    walk = walk-at (h .others .value) (h .path .value-is) (h .others .value-is);
+    walk = walk-at (h .path .value) (h .others .value) (h .path .value-is) (h .others .value-is);
     below = h .below;
     room = h .room;
     area = h .area;
     divisor = omega arith;
   }
 
-  module _ {o : Bool} (k : AlikeIs q g ge w x xe w a b o) where
-    pub member-other : o ≡ false → WroteMember w w q g ge p e x xe a b d stop Value.Absent
+  module _ {o : Bool} (k : AlikeIs q (span g ge) w (span x xe) w (span a b) o) where
+    pub member-other : o ≡ false → WroteMember w w q (span g ge) p (span x xe) (span a b) (span d stop) Value.Absent
     member-other z gs path t u hg hp ot ht ou hu =
         value-absent w d stop (ap (λ i. cond i (apply path u) none) (sym (k gs t u hg ot ht ou hu) ∙ z))
 
-    pub member-like : {v : List ℕ} {r : Value} → o ≡ true → Tells q p e 0 w a b (λ y. WroteFound w v d stop y r) → WroteMember w v q g ge p e x xe a b d stop r
+    pub member-like : {v : List ℕ} {r : Value} → o ≡ true → Tells q p 0 w (span a b) (λ y. WroteFound w v d stop y r) → WroteMember w v q (span g ge) p (span x xe) (span a b) (span d stop) r
     member-like {v} {r} z j gs path t u hg hp ot ht ou hu =
         subst (λ i. WroteFound w v d stop (cond i (apply path u) none) r) (sym z ∙ k gs t u hg ot ht ou hu) (j path u hp hu)
 
@@ -53,16 +54,16 @@ unfolding join joins
 joined-members f true u us = refl
 joined-members f false u us = refl
 
-module _ (w q : List ℕ) (g ge p e x xe a b d stop : ℕ) where
-  pub members-done : (s : Bool) {o : Value} → o ≡ answerOf s d → a ≡ b → d ≤ stop → MembersFrom s w w q g ge p e x xe a b d stop o
+module _ (w q : List ℕ) (g ge : ℕ) (p : Span) (x xe a b d stop : ℕ) where
+  pub members-done : (s : Bool) {o : Value} → o ≡ answerOf s d → a ≡ b → d ≤ stop → MembersFrom s w w q (span g ge) p (span x xe) (span a b) (span d stop) o
   unfolding filter joins
   members-done s {o} y z l gs path t us hg hp ot ht ou hu =
       subst (λ i. WroteFound w w d stop (join (before s) (joins (map (apply path) (filter (alike gs t) i)))) o) (sym (array-none us z hu))
       (subst (λ i. WroteFound w w d stop (join (before s) none) i) (sym y) (value-done w d stop s l))
 
   module _ (z : a ≡ b → ⊥) {m : ℕ} (y : m ≡ fieldEnd w a) where
-    module _ (h : MembersReady AllowedA arrayTrees w q g ge p e x xe a b d stop) where
-      pub members-first : MembersReady (Allowed depthMax) treeBytes w q g ge p e x xe a m d stop
+    module _ (h : MembersReady AllowedA arrayTrees w q (span g ge) p (span x xe) (span a b) (span d stop)) where
+      pub members-first : MembersReady (Allowed depthMax) treeBytes w q (span g ge) p (span x xe) (span a m) (span d stop)
       members-first =
           let c = array-parts (h .others .value) y z (h .others .value-is) in
           record {
@@ -76,8 +77,8 @@ module _ (w q : List ℕ) (g ge p e x xe a b d stop : ℕ) where
             area = h .area;
           }
 
-      pub members-rest : {v : List ℕ} {r : Value} {f : ℕ} → WroteMember w v q g ge p e x xe a m d stop r → f ≡ endOf r d → length v ≡ length w
-          → MembersReady AllowedA arrayTrees v q g ge p e x xe m b f stop
+      pub members-rest : {v : List ℕ} {r : Value} {f : ℕ} → WroteMember w v q (span g ge) p (span x xe) (span a m) (span d stop) r → f ≡ endOf r d → length v ≡ length w
+          → MembersReady AllowedA arrayTrees v q (span g ge) p (span x xe) (span m b) (span f stop)
       members-rest {v} {r} {f} k i l =
           let c = array-first z y (h .others) in
           let n = array-rest z y (h .others) in
@@ -95,8 +96,8 @@ module _ (w q : List ℕ) (g ge p e x xe a b d stop : ℕ) where
             area = omega (arith, h .area);
           }
 
-    module _ (s : Bool) {v : List ℕ} {r : Value} (k : WroteMember w v q g ge p e x xe a m d stop r) where
-      pub members-stop : isLarge r ≡ true → MembersFrom s w v q g ge p e x xe a b d stop Value.TooLarge
+    module _ (s : Bool) {v : List ℕ} {r : Value} (k : WroteMember w v q (span g ge) p (span x xe) (span a m) (span d stop) r) where
+      pub members-stop : isLarge r ≡ true → MembersFrom s w v q (span g ge) p (span x xe) (span a b) (span d stop) Value.TooLarge
       unfolding filter
       members-stop l gs path t us hg hp ot ht ou hu =
           let c = array-parts us y z hu in
@@ -108,7 +109,7 @@ module _ (w q : List ℕ) (g ge p e x xe a b d stop : ℕ) where
           (value-stop s r l j (joins (map (apply path) rest))))
 
       pub members-next : d ≤ length w → xe ≤ d → b ≤ d → isLarge r ≡ false → {f : ℕ} {n : Bool} → f ≡ endOf r d → n ≡ foundOf r s → (u : List ℕ) (o : Value)
-          → MembersFrom n v u q g ge p e x xe m b f stop o → MembersFrom s w u q g ge p e x xe a b d stop o
+          → MembersFrom n v u q (span g ge) p (span x xe) (span m b) (span f stop) o → MembersFrom s w u q (span g ge) p (span x xe) (span a b) (span d stop) o
       unfolding filter
       members-next l xd bd i x1 x2 u o k2 gs path t us hg hp ot ht ou hu =
           let c = array-parts us y z hu in
@@ -122,8 +123,8 @@ module _ (w q : List ℕ) (g ge p e x xe a b d stop : ℕ) where
           (value-next s r l i j x1 x2 (joins (map (apply path) rest)) o more))
 
 -- ---- the whole class: from its first tree on, which is like itself
-module _ {w q : List ℕ} {g ge p e x xe b d stop : ℕ} where
-  pub members-ready : MembersReady AllowedA arrayTrees w q g ge p e x xe xe b d stop → MembersReady AllowedA arrayTrees w q g ge p e x xe x b d stop
+module _ {w q : List ℕ} {g ge : ℕ} {p : Span} {x xe b d stop : ℕ} where
+  pub members-ready : MembersReady AllowedA arrayTrees w q (span g ge) p (span x xe) (span xe b) (span d stop) → MembersReady AllowedA arrayTrees w q (span g ge) p (span x xe) (span x b) (span d stop)
   members-ready h = record {
     grouping = h .grouping;
     path = h .path;
@@ -139,7 +140,7 @@ module _ {w q : List ℕ} {g ge p e x xe b d stop : ℕ} where
     area = h .area;
   }
 
-  pub members-whole : (v : List ℕ) (r : Value) → MembersFrom false w v q g ge p e x xe x b d stop r → WroteMembers w v q g ge p e x xe b d stop r
+  pub members-whole : (v : List ℕ) (r : Value) → MembersFrom false w v q (span g ge) p (span x xe) (span x b) (span d stop) r → WroteMembers w v q (span g ge) p (span x xe) b (span d stop) r
   unfolding filter over join
   members-whole v r k gs path t ts hg hp ot ht os hs =
       let j = k gs path t (t ∷ ts) hg hp ot ht (ot, os) (array-before t ts ht hs) in

@@ -5,25 +5,21 @@ use mathlib.Core.Bool.{Bool, true, false, cond}
 use Prim.Native.Nat.{ℕ, _+_, _*_, _≤_}
 use native.Mathlib.Omega.{arith}
 use lib.ListN.{length, take}
-use lib.Dec.{leb, leb→le}
 use Rattle.areas.specs.declared.area.Out.{Out}
 use Rattle.areas.specs.declared.area.Out.the-variants.{At}
-use Rattle.spec_trees.specs.Limits.{treeMax, pathMax, depthMax, workMin}
-use Rattle.spec_trees.specs.Lists.{all}
+use Rattle.spec_trees.specs.Limits.{treeMax, depthMax, workMin}
 use Rattle.spec_trees.specs.ListLaws.{All-filter}
-use Rattle.spec_trees.specs.Tree.{isLabel}
 use Rattle.spec_trees.specs.Bytes.{treeBytes}
 use Rattle.spec_trees.specs.Within.{Ok, Allowed, AllowedA}
-use Rattle.areas.specs.Area.{Is, Wrote}
+use Rattle.areas.specs.Area.{Is, Wrote, IsAt, span}
+use Rattle.areas.specs.declared.span.Span.{Span}
 use Rattle.areas.specs.AreaLaws.{is-keep, wrote-keep, written}
 use Rattle.format.specs.Stand.{Holds}
-use Rattle.spec_trees.specs.OptionLaws.{T-and}
-use Rattle.spec_queries.specs.Query.{Path, Pair, isPath}
-use Rattle.spec_queries.specs.Rules.{OkP, OkPair}
-use Rattle.queries.specs.Places.{pairBytes, arrayTrees, PairIs, ReadsPair}
+use Rattle.spec_queries.specs.Query.{Pair}
+use Rattle.spec_queries.specs.Rules.{OkPair}
+use Rattle.queries.specs.Places.{pathBytes, pairBytes, arrayTrees, PairIs, ReadsPair}
 use Rattle.queries.specs.declared.item.PairAt.{PairAt}
 use Rattle.queries.specs.Steps.{stepCount}
-use Rattle.queries.specs.StepLaws.{steps-are}
 use Rattle.spec_stages.specs.Paths.{Given, over, apply}
 use Rattle.spec_stages.specs.Project.{placed}
 use Rattle.spec_stages.specs.Group.{alike, sourced, Class}
@@ -35,6 +31,9 @@ use Rattle.group.specs.KeyLaws.{pair-source}
 use Rattle.data.specs.declared.value.Value.{Value}
 use Rattle.data.specs.Value.{WroteFound}
 use Rattle.data.specs.Write.{WalkReady}
+use Rattle.place.specs.Writers.{Along}
+use Rattle.place.specs.Place.{placeRoom, roomAt}
+use Rattle.place.specs.PlaceLaws.{room-all, room-small}
 use Rattle.build.specs.Made.{Adding, Adds, ValueReady, PlacesValue}
 use Rattle.build.specs.BuildLaws.{standing-keep}
 use Rattle.group.specs.Members.{MembersReady, WroteMembers}
@@ -42,10 +41,10 @@ use Rattle.group.specs.Grow.{aggregateValue, identityValue, onePart, sou
 use Rattle.group.specs.GrowLaws.{grown-none, grown-one}
 
 -- ---- the class stays while all below s does
-pub first-keep : {x xe s : ℕ} {w u : List ℕ} (c : Class) → take s u ≡ take s w → FirstAt x xe s w c → FirstAt x xe s u c
+pub first-keep : {x xe s : ℕ} {w u : List ℕ} (c : Class) → take s u ≡ take s w → FirstAt (span x xe) s w c → FirstAt (span x xe) s u c
 first-keep c k h = record { allowed = h .allowed; first-is = is-keep (h .first-is) k (h .below); below = h .below }
 
-pub class-keep : {q : List ℕ} {g ge x xe b s : ℕ} {w u : List ℕ} (c : Class) → take s u ≡ take s w → ClassAt q g ge x xe b s w c → ClassAt q g ge x xe b s u c
+pub class-keep : {q : List ℕ} {g ge x xe b s : ℕ} {w u : List ℕ} (c : Class) → take s u ≡ take s w → ClassAt q (span g ge) (span x xe) b s w c → ClassAt q (span g ge) (span x xe) b s u c
 class-keep {xe = xe} {s = s} c k h =
     let l : xe ≤ s = omega (arith, h .below, h .rest-is .ends) in
     record {
@@ -60,64 +59,62 @@ class-keep {xe = xe} {s = s} c k h =
       below = h .below;
     }
 
-pub first-holds : {x xe s : ℕ} {w : List ℕ} (c : Class) → FirstAt x xe s w c → Holds treeBytes w x xe
+pub first-holds : {x xe s : ℕ} {w : List ℕ} (c : Class) → FirstAt (span x xe) s w c → Holds treeBytes w x xe
 first-holds c h = record { value = c .0; value-is = h .first-is }
 
 -- ---- its values are well formed
-pub first-sound : {x xe s : ℕ} (w : List ℕ) (c : Class) (y : Pair) → FirstAt x xe s w c → OkF (identityValue c y)
+pub first-sound : {x xe s : ℕ} (w : List ℕ) (c : Class) (y : Pair) → FirstAt (span x xe) s w c → OkF (identityValue c y)
 first-sound w c y h = apply-ok (y .source) (c .0) (h .allowed .ok)
 
-pub class-sound : {q : List ℕ} {g ge x xe b s : ℕ} (w : List ℕ) (c : Class) (y : Pair) → ClassAt q g ge x xe b s w c → OkF (aggregateValue c y)
+pub class-sound : {q : List ℕ} {g ge x xe b s : ℕ} (w : List ℕ) (c : Class) (y : Pair) → ClassAt q (span g ge) (span x xe) b s w c → OkF (aggregateValue c y)
 class-sound w c y h =
     let others = subst AllowedA (sym (h .members)) (All-filter (Allowed depthMax) (alike (h .pairs) (c .0)) (h .rest) (h .rest-allowed)) in
     over-ok (apply (y .source)) (apply-ok (y .source)) (c .0 ∷ c .1) (allowed-ok (c .0 ∷ c .1) (h .allowed, others))
 
 -- ---- where the target of a pair stands
-path-short : (p : Path) → OkP p → length p ≤ pathMax
-unfolding isPath
-path-short p o = leb→le (length p) pathMax (T-and (leb (length p) pathMax) (all isLabel p) o .0)
+pair-target : {q : List ℕ} {p e : ℕ} {y : Pair} {a : PairAt} → PairIs q (span p e) y a → IsAt q (a .target) (pathBytes (y .target))
+pair-target {q} {a = a} k = subst (λ y. IsAt q (a .target) (pathBytes y)) (sym (ap (λ y. y .target) (k .same))) (k .second-is)
 
-pair-target : {q : List ℕ} {p e : ℕ} {y : Pair} {a : PairAt} → PairIs q p e y a → Is q (a .target) (a .«target_end») (y .target)
-pair-target {q} {a = a} k = subst (Is q (a .target) (a .«target_end»)) (sym (ap (λ y. y .target) (k .same))) (k .second-is)
-
-module _ (C : List ℕ → Class → Type 0) {w q : List ℕ} {p e s se : ℕ} (h : PairReady C w q p e s se) {a : PairAt} (reads : ReadsPair q p e a) where
+module _ (C : List ℕ → Class → Type 0) {w q : List ℕ} {p e s se : ℕ} (h : PairReady C w q (span p e) (span s se)) {a : PairAt} (reads : ReadsPair q (span p e) a) where
   abbrev here : Pair
   here = h .asked .value
 
-  target-is : Is q (a .target) (a .«target_end») (here .target)
+  target-is : IsAt q (a .target) (pathBytes (here .target))
   target-is = pair-target (reads here (h .asked .value-is))
 
+  pub target-along : Along q (a .target)
+  target-along = record { path = here .target; path-is = target-is; allowed = h .asked .allowed .1 .0 }
+
   -- there is room for the heads, behind the room of the tree so far
-  pub target-places : (a .target ≤ a .«target_end») × (stepCount (a .target) (a .«target_end») ≤ 8) × (s + 3 * treeMax ≤ workMin)
-  target-places =
-      (omega (arith, target-is .ends), omega (arith, steps-are target-is, path-short (here .target) (h .asked .allowed .1 .0)), omega (arith, h .room, h .small))
+  pub target-places : (roomAt q (a .target) (stepCount q (a .target)) ≤ 112) × (s + 3 * treeMax ≤ workMin)
+  target-places = (room-small target-along (stepCount q (a .target)) (omega arith), omega (arith, h .room, h .small))
 
   -- ---- a value that f gives was written there, and placed
   module _ (f : Class → Pair → Given) (sound : (w : List ℕ) (c : Class) (y : Pair) → C w c → OkF (f c y)) {w1 : List ℕ} {n : ℕ} {r : Value}
-      (m : n ≡ stepCount (a .target) (a .«target_end»)) (l : length w1 ≡ length w) (k : Values C f w w1 q p e (s + treeMax + 13 * n) (s + treeMax + treeMax) r) where
-    pub value-ready : ValueReady w1 q (a .target) (a .«target_end») (s + treeMax) (s + treeMax + treeMax) r
+      (m : n ≡ roomAt q (a .target) (stepCount q (a .target))) (l : length w1 ≡ length w) (k : Values C f w w1 q (span p e) (span (s + treeMax + n) (s + treeMax + treeMax)) r) where
+    pub value-ready : ValueReady w1 q (a .target) (span (s + treeMax) (s + treeMax + treeMax)) r
     value-ready =
         let j = k (h .members) here (h .there) (h .asked .value-is) in
         record {
-          along = record { path = here .target; path-is = target-is; allowed = h .asked .allowed .1 .0 };
+          along = target-along;
           room = omega (arith, target-places);
           inside = omega (arith, h .room);
           small = omega (arith, h .small);
           behind = λ g z. let i = j .fits g z .wrote .fits g refl in (omega (arith, i .ends), omega (arith, i .room, h .room));
         }
 
-    module _ {w2 : List ℕ} {o : Out} (places : PlacesValue w1 w2 q (a .target) (a .«target_end») (s + treeMax) (s + treeMax + treeMax) r o) where
+    module _ {w2 : List ℕ} {o : Out} (places : PlacesValue w1 w2 q (a .target) (span (s + treeMax) (s + treeMax + treeMax)) r o) where
       part-written : (c : Class) (y : Pair) → C w c → OkPair y → Is q p e (pairBytes y)
           → Wrote w w2 (s + treeMax) (s + treeMax + treeMax) (treeBytes (placed (y .target) (f c y))) o
       part-written c y hc oy hy =
           let t = pair-target (reads y hy) in
-          let z : s + treeMax + 13 * n ≡ s + treeMax + 13 * length (y .target) = ap (λ i. s + treeMax + 13 * i) (m ∙ steps-are t) in
+          let z : s + treeMax + n ≡ s + treeMax + placeRoom (y .target) = ap (λ i. s + treeMax + i) (m ∙ room-all (y .target) t) in
           places w (y .target) (f c y) (sym l) t (oy .1 .1) (subst (λ i. WroteFound w w1 i (s + treeMax + treeMax) (f c y) r) z (k c y hc hy))
 
       part-sound : (c : Class) (y : Pair) → C w c → OkPair y → Ok (placed (y .target) (f c y))
       part-sound c y hc oy = placed-ok (y .target) (labelled (y .target) (oy .1 .0)) (f c y) (sound w c y hc)
 
-      pub part-adding : length w2 ≡ length w → Adding w2 s se o
+      pub part-adding : length w2 ≡ length w → Adding w2 (span s se) o
       part-adding l2 =
           let j = part-written (h .members) here (h .there) (h .asked .allowed) (h .asked .value-is) in
           let b : s + treeMax ≤ length w = omega (arith, h .room) in
@@ -130,15 +127,15 @@ module _ (C : List ℕ → Class → Type 0) {w q : List ℕ} {p e s se : ℕ} (
             small = omega (arith, h .small);
           }
 
-      pub part-grows : {w3 : List ℕ} {o2 : Out} → length w2 ≡ length w → Adds w2 w3 s se o o2 → PairGrows C (onePart f) w w3 q p e s se o2
+      pub part-grows : {w3 : List ℕ} {o2 : Out} → length w2 ≡ length w → Adds w2 w3 (span s se) o o2 → PairGrows C (onePart f) w w3 q (span p e) (span s se) o2
       part-grows l2 adds c y z hc oy hy oz hz =
           grown-one z (placed (y .target) (f c y)) oz (part-sound c y hc oy)
           (adds w z (placed (y .target) (f c y)) (sym l2) oz (part-sound c y hc oy) hz (part-written c y hc oy hy))
 
 -- ---- the value of an aggregate
-module _ {w q : List ℕ} {g ge x xe b p e s : ℕ} {a : PairAt} (reads : ReadsPair q p e a) where
-  pub aggregate-ready : {se : ℕ} → PairReady (ClassAt q g ge x xe b s) w q p e s se → (n : ℕ) → n ≤ 8
-      → MembersReady AllowedA arrayTrees w q g ge (a .source) (a .«source_end») x xe xe b (s + treeMax + 13 * n) (s + treeMax + treeMax)
+module _ {w q : List ℕ} {g ge x xe b p e s : ℕ} {a : PairAt} (reads : ReadsPair q (span p e) a) where
+  pub aggregate-ready : {se : ℕ} → PairReady (ClassAt q (span g ge) (span x xe) b s) w q (span p e) (span s se) → (n : ℕ) → n ≤ 112
+      → MembersReady AllowedA arrayTrees w q (span g ge) (a .source) (span x xe) (span xe b) (span (s + treeMax + n) (s + treeMax + treeMax))
   aggregate-ready h n l =
       let c = h .there in
       record {
@@ -152,39 +149,39 @@ module _ {w q : List ℕ} {g ge x xe b p e s : ℕ} {a : PairAt} (reads : ReadsP
         area = omega (arith, h .room);
       }
 
-  pub aggregate-values : {u : List ℕ} {d stop : ℕ} {r : Value} → WroteMembers w u q g ge (a .source) (a .«source_end») x xe b d stop r
-      → Values (ClassAt q g ge x xe b s) aggregateValue w u q p e d stop r
+  pub aggregate-values : {u : List ℕ} {d stop : ℕ} {r : Value} → WroteMembers w u q (span g ge) (a .source) (span x xe) b (span d stop) r
+      → Values (ClassAt q (span g ge) (span x xe) b s) aggregateValue w u q (span p e) (span d stop) r
   aggregate-values {u} {d} {stop} {r} k c y hc hy =
       subst (λ i. WroteFound w u d stop (over (apply (y .source)) (c .0 ∷ i)) r) (sym (hc .members))
       (k (hc .pairs) (y .source) (c .0) (hc .rest) (hc .pairs-is) (pair-source (reads y hy)) (hc .allowed) (hc .first-is) (hc .rest-allowed) (hc .rest-is))
 
 -- ---- the value of a grouping pair
-module _ {w q : List ℕ} {x xe p e s : ℕ} {a : PairAt} (reads : ReadsPair q p e a) where
-  pub identity-ready : {se : ℕ} → PairReady (FirstAt x xe s) w q p e s se → (n : ℕ) → n ≤ 8
-      → WalkReady treeBytes q (a .source) (a .«source_end») 0 w x xe (s + treeMax + 13 * n) (s + treeMax + treeMax) 0
+module _ {w q : List ℕ} {x xe p e s : ℕ} {a : PairAt} (reads : ReadsPair q (span p e) a) where
+  pub identity-ready : {se : ℕ} → PairReady (FirstAt (span x xe) s) w q (span p e) (span s se) → (n : ℕ) → n ≤ 112
+      → WalkReady treeBytes q (a .source) 0 w (span x xe) (span (s + treeMax + n) (s + treeMax + treeMax)) 0
   identity-ready h n l = record {
-    walk = walk-at (h .members .0) (pair-source (reads (h .asked .value) (h .asked .value-is))) (h .there .first-is);
+    walk = walk-at (h .asked .value .source) (h .members .0) (pair-source (reads (h .asked .value) (h .asked .value-is))) (h .there .first-is);
     below = omega (arith, h .there .below);
     room = omega arith;
     area = omega (arith, h .room);
     divisor = omega arith;
   }
 
-  pub identity-values : {u : List ℕ} {d stop : ℕ} {r : Value} → Tells q (a .source) (a .«source_end») 0 w x xe (λ y. WroteFound w u d stop y r)
-      → Values (FirstAt x xe s) identityValue w u q p e d stop r
+  pub identity-values : {u : List ℕ} {d stop : ℕ} {r : Value} → Tells q (a .source) 0 w (span x xe) (λ y. WroteFound w u d stop y r)
+      → Values (FirstAt (span x xe) s) identityValue w u q (span p e) (span d stop) r
   identity-values k c y hc hy = k (y .source) (c .0) (pair-source (reads y hy)) (hc .first-is)
 
 -- only a pair of the class's subset adds it
-module _ {w q : List ℕ} {x xe p e s : ℕ} {o : Bool} (says : SourcedIs q p e w x xe o) where
-  is-sourced : (c : Class) (y : Pair) → FirstAt x xe s w c → Is q p e (pairBytes y) → o ≡ sourced c y
+module _ {w q : List ℕ} {x xe p e s : ℕ} {o : Bool} (says : SourcedIs q (span p e) w (span x xe) o) where
+  is-sourced : (c : Class) (y : Pair) → FirstAt (span x xe) s w c → Is q p e (pairBytes y) → o ≡ sourced c y
   unfolding sourced
   is-sourced c y hc hy = says y (c .0) hy (hc .first-is)
 
-  pub sourced-skip : {se : ℕ} → o ≡ false → se ≤ s + treeMax → PairGrows (FirstAt x xe s) sourcedPart w w q p e s se (At se)
+  pub sourced-skip : {se : ℕ} → o ≡ false → se ≤ s + treeMax → PairGrows (FirstAt (span x xe) s) sourcedPart w w q (span p e) (span s se) (At se)
   sourced-skip {se} z l c y t hc oy hy ot ht =
       subst (λ i. Grown w w s t (cond i (onePart identityValue c y) []) (At se)) (sym z ∙ is-sourced c y hc hy) (grown-none t ot ht l)
 
-  pub sourced-add : {se : ℕ} {u : List ℕ} {r : Out} → o ≡ true → PairGrows (FirstAt x xe s) (onePart identityValue) w u q p e s se r
-      → PairGrows (FirstAt x xe s) sourcedPart w u q p e s se r
+  pub sourced-add : {se : ℕ} {u : List ℕ} {r : Out} → o ≡ true → PairGrows (FirstAt (span x xe) s) (onePart identityValue) w u q (span p e) (span s se) r
+      → PairGrows (FirstAt (span x xe) s) sourcedPart w u q (span p e) (span s se) r
   sourced-add {u = u} {r = r} z k c y t hc oy hy ot ht =
       subst (λ i. Grown w u s t (cond i (onePart identityValue c y) []) r) (sym z ∙ is-sourced c y hc hy) (k c y t hc oy hy ot ht)

@@ -1,185 +1,145 @@
 //! The tree of a class: the bare void tree, with which the aggregates are merged and then the grouping values, in the
-//! order of their pairs. The tree so far stands at s, and each value is written and placed behind its room, and
+//! order of their pairs. The tree so far is `built`, and each value is written and placed behind its room, and
 //! added.
 ghost use Rattle.group.specs.Grow.{aggregateValue, identityValue, onePart, sourcedPart, FirstAt, ClassAt, PairReady, PairGrows, PairsReady, PairsGrow};
 ghost use Rattle.group.specs.Class.{ClassReady, MakesClass};
 use crate::members::write_members;
 use areas::area::Out;
 use areas::area::field_end;
+use areas::span::Span;
 use build::part::add_written;
 use build::part::begin;
 use build::part::place_value;
 use data::data::write_path;
 use format::limits::Limits;
 use paths::path::present;
+use place::place::heads_room;
 use queries::item::pair_at;
-use queries::path::steps;
+use queries::stage::GroupAt;
 
-/// Adds to the tree from s to se what the aggregate from p to e gives of the class: the values of all members, joined.
+/// Adds to the tree so far what the aggregate gives of the class: the values of all members, joined.
 fn add_aggregate(
-    w: &mut [u8],
-    q: &[u8],
-    g: usize,
-    ge: usize,
-    p: usize,
-    e: usize,
-    x: usize,
-    xe: usize,
-    b: usize,
-    s: usize,
-    se: usize,
+    work: &mut [u8],
+    query: &[u8],
+    keys: Span,
+    pair: Span,
+    first: Span,
+    end: usize,
+    built: Span,
 ) -> Out
-    requires { ⌜ PairReady (ClassAt (now q) g ge x xe b s) (now w) (now q) p e s se ⌝ }
-    ensures { λ r. ⌜ PairGrows (ClassAt (now (q .entry)) g ge x xe b s) (onePart aggregateValue) (now (w .entry)) (now (w .exit)) (now (q .entry)) p e s se r ⌝ }
+    requires { ⌜ PairReady (ClassAt (now query) keys first end (built .from)) (now work) (now query) pair built ⌝ }
+    ensures { λ r. ⌜ PairGrows (ClassAt (now (query .entry)) keys first end (built .from)) (onePart aggregateValue) (now (work .entry)) (now (work .exit)) (now (query .entry)) pair built r ⌝ }
 {
-    let pair = pair_at(q, p, e);
-    let n = steps(pair.target, pair.target_end);
-    let d = s + Limits::TREE;
-    let stop = d + Limits::TREE;
-    let to = d + 13 * n;
-    let r = write_members(
-        w,
-        q,
-        g,
-        ge,
-        pair.source,
-        pair.source_end,
-        x,
-        xe,
-        b,
-        to,
-        stop,
-    );
-    let o = place_value(w, q, pair.target, pair.target_end, d, stop, r);
-    add_written(w, s, se, o)
+    let at = pair_at(query, pair);
+    let n = heads_room(query, at.target);
+    let from = built.from + Limits::TREE;
+    let to = from + Limits::TREE;
+    let inner = Span { from: from + n, to };
+    let r = write_members(work, query, keys, at.source, first, end, inner);
+    let o = place_value(work, query, at.target, Span { from, to }, r);
+    add_written(work, built, o)
 }
 
-/// The same of each aggregate from p to e.
+/// The same of each aggregate.
 fn add_aggregates(
-    w: &mut [u8],
-    q: &[u8],
-    g: usize,
-    ge: usize,
-    p: usize,
-    e: usize,
-    x: usize,
-    xe: usize,
-    b: usize,
-    s: usize,
-    se: usize,
+    work: &mut [u8],
+    query: &[u8],
+    keys: Span,
+    aggregates: Span,
+    first: Span,
+    end: usize,
+    built: Span,
 ) -> Out
-    requires { ⌜ PairsReady (ClassAt (now q) g ge x xe b s) (now w) (now q) p e s se ⌝ }
-    ensures { λ r. ⌜ PairsGrow (ClassAt (now (q .entry)) g ge x xe b s) (onePart aggregateValue) (now (w .entry)) (now (w .exit)) (now (q .entry)) p e s se r ⌝ }
+    requires { ⌜ PairsReady (ClassAt (now query) keys first end (built .from)) (now work) (now query) aggregates built ⌝ }
+    ensures { λ r. ⌜ PairsGrow (ClassAt (now (query .entry)) keys first end (built .from)) (onePart aggregateValue) (now (work .entry)) (now (work .exit)) (now (query .entry)) aggregates built r ⌝ }
 {
-    let mut at = p;
-    let mut end = se;
-    while at != e {
-        let m = field_end(q, at);
-        let r = add_aggregate(w, q, g, ge, at, m, x, xe, b, s, end);
+    let last = aggregates.to;
+    let base = built.from;
+    let mut at = aggregates.from;
+    let mut to = built.to;
+    while at != last {
+        let m = field_end(query, at);
+        let pair = Span { from: at, to: m };
+        let so_far = Span { from: base, to };
+        let r = add_aggregate(work, query, keys, pair, first, end, so_far);
         let Out::At(n) = r else {
             return Out::TooLarge;
         };
-        end = n;
+        to = n;
         at = m;
     }
-    Out::At(end)
+    Out::At(to)
 }
 
-/// Adds to the tree from s to se what the grouping pair from p to e gives of the class's first tree, from x to xe.
-fn add_identity(
-    w: &mut [u8],
-    q: &[u8],
-    p: usize,
-    e: usize,
-    x: usize,
-    xe: usize,
-    s: usize,
-    se: usize,
-) -> Out
-    requires { ⌜ PairReady (FirstAt x xe s) (now w) (now q) p e s se ⌝ }
-    ensures { λ r. ⌜ PairGrows (FirstAt x xe s) (onePart identityValue) (now (w .entry)) (now (w .exit)) (now (q .entry)) p e s se r ⌝ }
+/// Adds to the tree so far what the grouping pair gives of the class's first tree.
+fn add_identity(work: &mut [u8], query: &[u8], pair: Span, first: Span, built: Span) -> Out
+    requires { ⌜ PairReady (FirstAt first (built .from)) (now work) (now query) pair built ⌝ }
+    ensures { λ r. ⌜ PairGrows (FirstAt first (built .from)) (onePart identityValue) (now (work .entry)) (now (work .exit)) (now (query .entry)) pair built r ⌝ }
 {
-    let pair = pair_at(q, p, e);
-    let n = steps(pair.target, pair.target_end);
-    let d = s + Limits::TREE;
-    let stop = d + Limits::TREE;
-    let to = d + 13 * n;
-    let r = write_path(w, q, pair.source, pair.source_end, 0, x, xe, to, stop);
-    let o = place_value(w, q, pair.target, pair.target_end, d, stop, r);
-    add_written(w, s, se, o)
+    let at = pair_at(query, pair);
+    let n = heads_room(query, at.target);
+    let from = built.from + Limits::TREE;
+    let to = from + Limits::TREE;
+    let inner = Span { from: from + n, to };
+    let r = write_path(work, query, at.source, first, inner);
+    let o = place_value(work, query, at.target, Span { from, to }, r);
+    add_written(work, built, o)
 }
 
 /// The same, if the pair is in the class's subset: a source that is absent adds nothing.
-fn add_sourced(
-    w: &mut [u8],
-    q: &[u8],
-    p: usize,
-    e: usize,
-    x: usize,
-    xe: usize,
-    s: usize,
-    se: usize,
-) -> Out
-    requires { ⌜ PairReady (FirstAt x xe s) (now w) (now q) p e s se ⌝ }
-    ensures { λ r. ⌜ PairGrows (FirstAt x xe s) sourcedPart (now (w .entry)) (now (w .exit)) (now (q .entry)) p e s se r ⌝ }
+fn add_sourced(work: &mut [u8], query: &[u8], pair: Span, first: Span, built: Span) -> Out
+    requires { ⌜ PairReady (FirstAt first (built .from)) (now work) (now query) pair built ⌝ }
+    ensures { λ r. ⌜ PairGrows (FirstAt first (built .from)) sourcedPart (now (work .entry)) (now (work .exit)) (now (query .entry)) pair built r ⌝ }
 {
-    let pair = pair_at(q, p, e);
-    if !present(q, pair.source, pair.source_end, 0, w, x, xe) {
-        return Out::At(se);
+    let at = pair_at(query, pair);
+    if !present(query, at.source, 0, work, first) {
+        return Out::At(built.to);
     }
-    add_identity(w, q, p, e, x, xe, s, se)
+    add_identity(work, query, pair, first, built)
 }
 
-/// The same of each grouping pair from p to e.
-fn add_identities(
-    w: &mut [u8],
-    q: &[u8],
-    p: usize,
-    e: usize,
-    x: usize,
-    xe: usize,
-    s: usize,
-    se: usize,
-) -> Out
-    requires { ⌜ PairsReady (FirstAt x xe s) (now w) (now q) p e s se ⌝ }
-    ensures { λ r. ⌜ PairsGrow (FirstAt x xe s) sourcedPart (now (w .entry)) (now (w .exit)) (now (q .entry)) p e s se r ⌝ }
+/// The same of each grouping pair.
+fn add_identities(work: &mut [u8], query: &[u8], keys: Span, first: Span, built: Span) -> Out
+    requires { ⌜ PairsReady (FirstAt first (built .from)) (now work) (now query) keys built ⌝ }
+    ensures { λ r. ⌜ PairsGrow (FirstAt first (built .from)) sourcedPart (now (work .entry)) (now (work .exit)) (now (query .entry)) keys built r ⌝ }
 {
-    let mut at = p;
-    let mut end = se;
-    while at != e {
-        let m = field_end(q, at);
-        let r = add_sourced(w, q, at, m, x, xe, s, end);
+    let last = keys.to;
+    let base = built.from;
+    let mut at = keys.from;
+    let mut to = built.to;
+    while at != last {
+        let m = field_end(query, at);
+        let pair = Span { from: at, to: m };
+        let r = add_sourced(work, query, pair, first, Span { from: base, to });
         let Out::At(n) = r else {
             return Out::TooLarge;
         };
-        end = n;
+        to = n;
         at = m;
     }
-    Out::At(end)
+    Out::At(to)
 }
 
-/// Makes at s the tree of the class that begins at the tree from x to xe, and answers where it ends. The class's
-/// other members are among the trees from xe to b, below s. The aggregates stand in q from ag to age, the grouping
-/// pairs from g to ge. Above s three rooms of one tree each are used.
+/// Makes at `at` the tree of the class that begins at its first tree, and answers where it ends. The class's other
+/// members are among the trees behind that, up to `end`, below `at`. Above `at` three rooms of one tree each are used.
 pub fn class_tree(
-    w: &mut [u8],
-    q: &[u8],
-    ag: usize,
-    age: usize,
-    g: usize,
-    ge: usize,
-    x: usize,
-    xe: usize,
-    b: usize,
-    s: usize,
+    work: &mut [u8],
+    query: &[u8],
+    group: GroupAt,
+    first: Span,
+    end: usize,
+    at: usize,
 ) -> Out
-    requires { ⌜ ClassReady (now w) (now q) ag age g ge x xe b s ⌝ }
-    ensures { λ r. ⌜ MakesClass (now (w .entry)) (now (w .exit)) (now (q .entry)) ag age g ge x xe b s r ⌝ }
+    requires { ⌜ ClassReady (now work) (now query) group first end at ⌝ }
+    ensures { λ r. ⌜ MakesClass (now (work .entry)) (now (work .exit)) (now (query .entry)) group first end at r ⌝ }
 {
-    let z = begin(w, s);
-    let r = add_aggregates(w, q, g, ge, ag, age, x, xe, b, s, z);
-    let Out::At(e) = r else {
+    let begun = Span {
+        from: at,
+        to: begin(work, at),
+    };
+    let r = add_aggregates(work, query, group.keys, group.aggregates, first, end, begun);
+    let Out::At(to) = r else {
         return Out::TooLarge;
     };
-    add_identities(w, q, g, ge, x, xe, s, e)
+    add_identities(work, query, group.keys, first, Span { from: at, to })
 }

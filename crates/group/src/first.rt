@@ -5,24 +5,18 @@ ghost use Rattle.group.specs.First.{BeginsReady, UnlikeIs, BeginsIs};
 use crate::key::same_key;
 use crate::key::subset;
 use areas::area::field_end;
+use areas::span::Span;
 
-/// Whether no tree from a to x has the key of the tree from x to xe.
-fn is_first<'a>(
-    w: &'a [u8],
-    q: &'a [u8],
-    g: usize,
-    ge: usize,
-    a: usize,
-    x: usize,
-    xe: usize,
-) -> bool
-    requires { ⌜ BeginsReady (now w) (now q) g ge a x xe ⌝ }
-    ensures { λ r. ⌜ UnlikeIs (now (w .entry)) (now (q .entry)) g ge a x xe r ⌝ }
+/// Whether no tree before the tree, from `from` on, has its key.
+fn is_first<'a>(area: &'a [u8], query: &'a [u8], keys: Span, from: usize, tree: Span) -> bool
+    requires { ⌜ BeginsReady (now area) (now query) keys from tree ⌝ }
+    ensures { λ r. ⌜ UnlikeIs (now (area .entry)) (now (query .entry)) keys from tree r ⌝ }
 {
-    let mut at = a;
-    while at != x {
-        let m = field_end(w, at);
-        if same_key(q, g, ge, w, at, m, w, x, xe) {
+    let end = tree.from;
+    let mut at = from;
+    while at != end {
+        let m = field_end(area, at);
+        if same_key(query, keys, area, Span { from: at, to: m }, area, tree) {
             return false;
         }
         at = m;
@@ -30,23 +24,14 @@ fn is_first<'a>(
     true
 }
 
-/// Whether the tree from x to xe begins a class of the subset whose sum is m: it has just those grouping sources
-/// present, and no tree from a, where the array begins, to x has its key.
-pub fn begins<'a>(
-    w: &'a [u8],
-    q: &'a [u8],
-    g: usize,
-    ge: usize,
-    a: usize,
-    x: usize,
-    xe: usize,
-    m: usize,
-) -> bool
-    requires { ⌜ BeginsReady (now w) (now q) g ge a x xe ⌝ }
-    ensures { λ r. ⌜ BeginsIs (now (w .entry)) (now (q .entry)) g ge a x xe m r ⌝ }
+/// Whether the tree begins a class of the subset with this sum: it has just those grouping sources present, and no tree
+/// before it, from the start of the area on, has its key.
+pub fn begins<'a>(area: &'a [u8], query: &'a [u8], keys: Span, tree: Span, sum: usize) -> bool
+    requires { ⌜ BeginsReady (now area) (now query) keys 0 tree ⌝ }
+    ensures { λ r. ⌜ BeginsIs (now (area .entry)) (now (query .entry)) keys 0 tree sum r ⌝ }
 {
-    if subset(q, g, ge, w, x, xe) != m {
+    if subset(query, keys, area, tree) != sum {
         return false;
     }
-    is_first(w, q, g, ge, a, x, xe)
+    is_first(area, query, keys, 0, tree)
 }

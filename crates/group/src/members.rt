@@ -3,12 +3,13 @@
 ghost use Rattle.spec_trees.specs.Limits.{depthMax};
 ghost use Rattle.spec_trees.specs.Bytes.{treeBytes};
 ghost use Rattle.spec_trees.specs.Within.{Allowed, AllowedA};
-ghost use Rattle.format.specs.Stand.{Holds};
-ghost use Rattle.queries.specs.Places.{pairsBytes, arrayTrees};
+ghost use Rattle.queries.specs.Places.{pairsBytes, arrayTrees, HoldsAt};
+ghost use Rattle.areas.specs.Area.{span};
 ghost use Rattle.group.specs.Keys.{AlikeIs};
 ghost use Rattle.group.specs.Members.{MembersReady, WroteMember, WroteMembers};
 use crate::key::same_key;
 use areas::area::field_end;
+use areas::span::Span;
 use data::data::write_path;
 use data::value::Value;
 use data::value::answer_of;
@@ -16,72 +17,56 @@ use data::value::end_of;
 use data::value::found_of;
 use data::value::is_large;
 
-/// Whether the tree from a to b has the key of the tree from x to xe.
-fn is_member<'a>(
-    w: &'a [u8],
-    q: &'a [u8],
-    g: usize,
-    ge: usize,
-    x: usize,
-    xe: usize,
-    a: usize,
-    b: usize,
-) -> bool
-    requires { ⌜ Holds pairsBytes (now q) g ge × Holds treeBytes (now w) x xe × Holds treeBytes (now w) a b ⌝ }
-    ensures { λ r. ⌜ AlikeIs (now (q .entry)) g ge (now (w .entry)) x xe (now (w .entry)) a b r ⌝ }
+/// Whether the tree has the key of the first.
+fn is_member<'a>(area: &'a [u8], query: &'a [u8], keys: Span, first: Span, tree: Span) -> bool
+    requires { ⌜ HoldsAt pairsBytes (now query) keys × HoldsAt treeBytes (now area) first × HoldsAt treeBytes (now area) tree ⌝ }
+    ensures { λ r. ⌜ AlikeIs (now (query .entry)) keys (now (area .entry)) first (now (area .entry)) tree r ⌝ }
 {
-    same_key(q, g, ge, w, x, xe, w, a, b)
+    same_key(query, keys, area, first, area, tree)
 }
 
-/// What the path from p to e gives of the tree from a to b, if it has the key of the tree from x to xe; otherwise
-/// nothing.
+/// What the path gives of the tree, if it has the key of the first; otherwise nothing.
 fn write_member(
-    w: &mut [u8],
-    q: &[u8],
-    g: usize,
-    ge: usize,
-    p: usize,
-    e: usize,
-    x: usize,
-    xe: usize,
-    a: usize,
-    b: usize,
-    d: usize,
-    stop: usize,
+    work: &mut [u8],
+    query: &[u8],
+    keys: Span,
+    source: Span,
+    first: Span,
+    tree: Span,
+    room: Span,
 ) -> Value
-    requires { ⌜ MembersReady (Allowed depthMax) treeBytes (now w) (now q) g ge p e x xe a b d stop ⌝ }
-    ensures { λ r. ⌜ WroteMember (now (w .entry)) (now (w .exit)) (now (q .entry)) g ge p e x xe a b d stop r ⌝ }
+    requires { ⌜ MembersReady (Allowed depthMax) treeBytes (now work) (now query) keys source first tree room ⌝ }
+    ensures { λ r. ⌜ WroteMember (now (work .entry)) (now (work .exit)) (now (query .entry)) keys source first tree room r ⌝ }
 {
-    if !is_member(w, q, g, ge, x, xe, a, b) {
+    if !is_member(work, query, keys, first, tree) {
         return Value::Absent;
     }
-    write_path(w, q, p, e, 0, a, b, d, stop)
+    write_path(work, query, source, tree, room)
 }
 
-/// What the path from p to e gives of each member of the class, joined. The class begins at the tree from x to xe; its
-/// other members are among the trees from xe to b.
+/// What the path gives of each member of the class, joined. The class begins at its first tree; its other members are
+/// among the trees behind that, up to `end`.
 pub fn write_members(
-    w: &mut [u8],
-    q: &[u8],
-    g: usize,
-    ge: usize,
-    p: usize,
-    e: usize,
-    x: usize,
-    xe: usize,
-    b: usize,
-    d: usize,
-    stop: usize,
+    work: &mut [u8],
+    query: &[u8],
+    keys: Span,
+    source: Span,
+    first: Span,
+    end: usize,
+    room: Span,
 ) -> Value
-    requires { ⌜ MembersReady AllowedA arrayTrees (now w) (now q) g ge p e x xe xe b d stop ⌝ }
-    ensures { λ r. ⌜ WroteMembers (now (w .entry)) (now (w .exit)) (now (q .entry)) g ge p e x xe b d stop r ⌝ }
+    requires { ⌜ MembersReady AllowedA arrayTrees (now work) (now query) keys source first (span (first .to) end) room ⌝ }
+    ensures { λ r. ⌜ WroteMembers (now (work .entry)) (now (work .exit)) (now (query .entry)) keys source first end room r ⌝ }
 {
-    let mut at = x;
-    let mut to = d;
+    let stop = room.to;
+    let mut at = first.from;
+    let mut to = room.from;
     let mut any = false;
-    while at != b {
-        let m = field_end(w, at);
-        let r = write_member(w, q, g, ge, p, e, x, xe, at, m, to, stop);
+    while at != end {
+        let m = field_end(work, at);
+        let tree = Span { from: at, to: m };
+        let rest = Span { from: to, to: stop };
+        let r = write_member(work, query, keys, source, first, tree, rest);
         if is_large(r) {
             return Value::TooLarge;
         }

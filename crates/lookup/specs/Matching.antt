@@ -5,16 +5,17 @@ use mathlib.Core.Bool.{Bool}
 use Prim.Native.Nat.{ℕ}
 use Rattle.spec_trees.specs.Tree.{Tree}
 use Rattle.spec_trees.specs.Bytes.{treeBytes}
-use Rattle.areas.specs.Area.{Is}
+use Rattle.areas.specs.Area.{IsAt}
+use Rattle.areas.specs.declared.span.Span.{Span}
 use Rattle.spec_trees.specs.Limits.{depthMax}
 use Rattle.spec_trees.specs.Within.{Allowed}
-use Rattle.spec_queries.specs.Query.{Path}
+use Rattle.spec_queries.specs.Query.{Route}
+use Rattle.queries.specs.Places.{routeBytes}
 use Rattle.spec_stages.specs.Lookup.{matches}
 
--- A lookup's q stands in q from pq to pqe, its r from pr to pre; the joined tree stands in j from x to xe.
-
--- whether the joined tree matches
-abbrev pub JoinsIs : (q : List ℕ) (pq pqe pr pre : ℕ) (s : List ℕ) (a b : ℕ) (j : List ℕ) (x xe : ℕ) → Bool → Type 0
-JoinsIs q pq pqe pr pre s a b j x xe r =
-    (path path2 : Path) (t u : Tree) → Is q pq pqe path → Is q pr pre path2
-    → Allowed depthMax t → Is s a b (treeBytes t) → Allowed depthMax u → Is j x xe (treeBytes u) → r ≡ matches path path2 t u
+-- whether the joined tree, which stands in j, matches the tree, which stands in s, by the paths of the two
+abbrev pub JoinsIs : (q : List ℕ) (ownAt theirsAt : Span) (s : List ℕ) (treeAt : Span) (j : List ℕ) (joinedAt : Span) → Bool → Type 0
+JoinsIs q ownAt theirsAt s treeAt j joinedAt r =
+    (own theirs : Route) (t u : Tree) → IsAt q ownAt (routeBytes own) → IsAt q theirsAt (routeBytes theirs)
+    → Allowed depthMax t → IsAt s treeAt (treeBytes t) → Allowed depthMax u → IsAt j joinedAt (treeBytes u)
+    → r ≡ matches own theirs t u

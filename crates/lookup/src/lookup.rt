@@ -9,93 +9,90 @@ use crate::matching::joins;
 use areas::area::Out;
 use areas::area::copy_in;
 use areas::area::field_end;
+use areas::span::Span;
 use build::part::add_written;
 use build::part::place_value;
 use data::value::value_of;
 use format::limits::Limits;
-use queries::path::steps;
+use place::place::heads_room;
+use queries::stage::LookupAt;
 
-/// Copies the joined tree from x to xe to d, if it matches the tree from a to b.
+/// Copies the joined tree that stands at `other` into the room, if it matches the tree.
 fn copy_match<'a>(
-    w: &mut [u8],
-    q: &'a [u8],
-    f: usize,
-    t: usize,
-    g: usize,
-    u: usize,
-    a: usize,
-    b: usize,
-    j: &'a [u8],
-    x: usize,
-    xe: usize,
-    d: usize,
-    stop: usize,
+    work: &mut [u8],
+    query: &'a [u8],
+    at: LookupAt,
+    tree: Span,
+    joined: &'a [u8],
+    other: Span,
+    room: Span,
 ) -> Out
-    requires { ⌜ Matching (Allowed depthMax) treeBytes (now w) (now q) f t g u a b (now j) x xe d stop ⌝ }
-    ensures { λ r. ⌜ CopiesMatch (now (w .entry)) (now (w .exit)) (now (q .entry)) f t g u a b (now (j .entry)) x xe d stop r ⌝ }
+    requires { ⌜ Matching (Allowed depthMax) treeBytes (now work) (now query) at tree (now joined) other room ⌝ }
+    ensures { λ r. ⌜ CopiesMatch (now (work .entry)) (now (work .exit)) (now (query .entry)) at tree (now (joined .entry)) other room r ⌝ }
 {
-    if joins(q, f, t, g, u, w, a, b, j, x, xe) {
-        return copy_in(w, &j[x..xe], d, stop);
+    if joins(query, at.own, at.theirs, work, tree, joined, other) {
+        let from = other.from;
+        let to = other.to;
+        return copy_in(work, &joined[from..to], room);
     }
-    Out::At(d)
+    Out::At(room.from)
 }
 
-/// Copies the joined trees from x to xe that match the tree from a to b to d, in their order.
+/// Copies those of the joined trees that match the tree into the room, in their order.
 fn copy_partners<'a>(
-    w: &mut [u8],
-    q: &'a [u8],
-    f: usize,
-    t: usize,
-    g: usize,
-    u: usize,
-    a: usize,
-    b: usize,
-    j: &'a [u8],
-    x: usize,
-    xe: usize,
-    d: usize,
-    stop: usize,
+    work: &mut [u8],
+    query: &'a [u8],
+    at: LookupAt,
+    tree: Span,
+    joined: &'a [u8],
+    trees: Span,
+    room: Span,
 ) -> Out
-    requires { ⌜ Matching AllowedA arrayTrees (now w) (now q) f t g u a b (now j) x xe d stop ⌝ }
-    ensures { λ r. ⌜ CopiesPartners (now (w .entry)) (now (w .exit)) (now (q .entry)) f t g u a b (now (j .entry)) x xe d stop r ⌝ }
+    requires { ⌜ Matching AllowedA arrayTrees (now work) (now query) at tree (now joined) trees room ⌝ }
+    ensures { λ r. ⌜ CopiesPartners (now (work .entry)) (now (work .exit)) (now (query .entry)) at tree (now (joined .entry)) trees room r ⌝ }
 {
-    let mut at = x;
-    let mut to = d;
-    while at != xe {
-        let m = field_end(j, at);
-        let one = copy_match(w, q, f, t, g, u, a, b, j, at, m, to, stop);
+    let end = trees.to;
+    let stop = room.to;
+    let mut from = trees.from;
+    let mut to = room.from;
+    while from != end {
+        let m = field_end(joined, from);
+        let one = copy_match(
+            work,
+            query,
+            at,
+            tree,
+            joined,
+            Span { from, to: m },
+            Span { from: to, to: stop },
+        );
         let Out::At(e) = one else {
             return Out::TooLarge;
         };
         to = e;
-        at = m;
+        from = m;
     }
     Out::At(to)
 }
 
-/// Makes, in the place of the tree from a to b, its merge with the place of all joined trees that match it.
-/// In q, the tree's path stands from f to t, the joined trees' from g to u, and the path of the place from h to v.
+/// Makes, in the place of the tree, its merge with the place of all joined trees that match it. In the query stand the
+/// lookup's paths, in `joined` the trees of the joined array.
 pub fn lookup<'a>(
-    w: &mut [u8],
-    q: &'a [u8],
-    f: usize,
-    t: usize,
-    g: usize,
-    u: usize,
-    h: usize,
-    v: usize,
-    a: usize,
-    b: usize,
-    j: &'a [u8],
-    x: usize,
-    xe: usize,
+    work: &mut [u8],
+    query: &'a [u8],
+    at: LookupAt,
+    tree: Span,
+    joined: &'a [u8],
+    trees: Span,
 ) -> Out
-    requires { ⌜ LookupReady (now w) (now q) f t g u h v a b (now j) x xe ⌝ }
-    ensures { λ r. ⌜ Looks (now (w .entry)) (now (w .exit)) (now (q .entry)) f t g u h v a b (now (j .entry)) x xe r ⌝ }
+    requires { ⌜ LookupReady (now work) (now query) at tree (now joined) trees ⌝ }
+    ensures { λ r. ⌜ Looks (now (work .entry)) (now (work .exit)) (now (query .entry)) at tree (now (joined .entry)) trees r ⌝ }
 {
-    let d = a + Limits::TREE;
-    let n = 13 * steps(h, v);
-    let all = copy_partners(w, q, f, t, g, u, a, b, j, x, xe, d + n, d + Limits::TREE);
-    let placed = place_value(w, q, h, v, d, d + Limits::TREE, value_of(all));
-    add_written(w, a, b, placed)
+    let from = tree.from + Limits::TREE;
+    let to = from + Limits::TREE;
+    let n = heads_room(query, at.target);
+    let inner = Span { from: from + n, to };
+    let all = copy_partners(work, query, at, tree, joined, trees, inner);
+    let placed = place_value(work, query, at.target, Span { from, to }, value_of(all));
+    add_written(work, tree, placed)
 }

@@ -3,25 +3,22 @@
 ghost use Rattle.spec_trees.specs.Bytes.{treeBytes};
 ghost use Rattle.paths.specs.Walk.{Walk};
 ghost use Rattle.lookup.specs.Matching.{JoinsIs};
-use paths::equality::same_paths;
+use areas::span::Span;
+use paths::equality::same_keys;
 
-/// Whether the joined tree in j from x to xe matches the tree in s from a to b: what the path from pr to pre gives of
-/// the joined tree equals what the path from pq to pqe gives of the other. Absent equals absent.
+/// Whether the joined tree matches the tree: what the path `theirs` gives of the joined tree equals what the path `own`
+/// gives of the other. Absent equals absent.
 pub fn joins<'a>(
-    q: &'a [u8],
-    pq: usize,
-    pqe: usize,
-    pr: usize,
-    pre: usize,
-    s: &'a [u8],
-    a: usize,
-    b: usize,
-    j: &'a [u8],
-    x: usize,
-    xe: usize,
+    query: &'a [u8],
+    own: Span,
+    theirs: Span,
+    area: &'a [u8],
+    tree: Span,
+    joined: &'a [u8],
+    other: Span,
 ) -> bool
-    requires { ⌜ Walk treeBytes (now q) pq pqe 0 (now s) a b × Walk treeBytes (now q) pr pre 0 (now j) x xe ⌝ }
-    ensures { λ r. ⌜ JoinsIs (now (q .entry)) pq pqe pr pre (now (s .entry)) a b (now (j .entry)) x xe r ⌝ }
+    requires { ⌜ Walk treeBytes (now query) own 0 (now area) tree × Walk treeBytes (now query) theirs 0 (now joined) other ⌝ }
+    ensures { λ r. ⌜ JoinsIs (now (query .entry)) own theirs (now (area .entry)) tree (now (joined .entry)) other r ⌝ }
 {
-    same_paths(q, pr, pre, pq, pqe, j, x, xe, s, a, b)
+    same_keys(query, theirs, joined, other, own, area, tree)
 }

@@ -13,147 +13,185 @@ use areas::area::Out;
 use areas::area::copy;
 use areas::area::field_end;
 use areas::area::finish;
+use areas::span::Span;
+use format::labels::heads;
 use format::labels::label_at;
+use format::labels::trees_at;
 
-/// Merges the trees from s to se and from t to te, both below d, and writes the merge at d.
-pub fn merge_tree(
-    w: &mut [u8],
-    s: usize,
-    se: usize,
-    t: usize,
-    te: usize,
-    d: usize,
-    stop: usize,
-) -> Out
-    requires { ⌜ MergeReady treeBytes (now w) s se t te d stop ⌝ }
-    ensures { λ r. ⌜ TreesMerged (now (w .entry)) (now (w .exit)) s se t te d stop r ⌝ }
+/// Merges two trees, which both stand below the room, and writes the merge there.
+pub fn merge_tree(work: &mut [u8], one: Span, other: Span, room: Span) -> Out
+    requires { ⌜ MergeReady treeBytes (now work) one other room ⌝ }
+    ensures { λ r. ⌜ TreesMerged (now (work .entry)) (now (work .exit)) one other room r ⌝ }
 {
-    merge_node(w, s, se, t, te, d, stop)
+    merge_node(work, one, other, room)
 }
 
 /// The root of the second tree, unless it is void.
-fn merge_root(w: &mut [u8], s: usize, se: usize, t: usize, te: usize, d: usize, stop: usize) -> Out
-    requires { ⌜ MergeReady rootBytes (now w) s se t te d stop ⌝ }
-    ensures { λ r. ⌜ Merged rootBytes mergeRoot (now (w .entry)) (now (w .exit)) s se t te d stop r ⌝ }
+fn merge_root(work: &mut [u8], one: Span, other: Span, room: Span) -> Out
+    requires { ⌜ MergeReady rootBytes (now work) one other room ⌝ }
+    ensures { λ r. ⌜ Merged rootBytes mergeRoot (now (work .entry)) (now (work .exit)) one other room r ⌝ }
 {
-    if w[t] == 3 {
-        copy(w, s, se, d, stop)
+    let at = other.from;
+    if work[at] == 3 {
+        copy(work, one, room)
     } else {
-        copy(w, t, te, d, stop)
+        copy(work, other, room)
     }
 }
 
-/// The merge of two trees: a root and labels, by two fingers.
-fn merge_node(w: &mut [u8], s: usize, se: usize, t: usize, te: usize, d: usize, stop: usize) -> Out
-    requires { ⌜ MergeReady treeBytes (now w) s se t te d stop ⌝ }
-    ensures { λ r. ⌜ Merged treeBytes mergeTwo (now (w .entry)) (now (w .exit)) s se t te d stop r ⌝ }
+/// The merge of two trees: a root and labels.
+fn merge_node(work: &mut [u8], one: Span, other: Span, room: Span) -> Out
+    requires { ⌜ MergeReady treeBytes (now work) one other room ⌝ }
+    ensures { λ r. ⌜ Merged treeBytes mergeTwo (now (work .entry)) (now (work .exit)) one other room r ⌝ }
 {
-    if stop - d < 3 {
+    let end = one.to;
+    let end2 = other.to;
+    let stop = room.to;
+    if stop - room.from < 3 {
         return Out::TooLarge;
     }
-    let sl = field_end(w, s + 3);
-    let tl = field_end(w, t + 3);
-    let root = merge_root(w, s + 3, sl, t + 3, tl, d + 3, stop);
+    let s = one.from + 3;
+    let t = other.from + 3;
+    let d = room.from + 3;
+    let m = field_end(work, s);
+    let n = field_end(work, t);
+    let root = merge_root(
+        work,
+        Span { from: s, to: m },
+        Span { from: t, to: n },
+        Span { from: d, to: stop },
+    );
     let Out::At(e) = root else {
         return Out::TooLarge;
     };
-    let all = merge_labels(w, sl, se, tl, te, e, stop);
-    finish(w, d, 2, all)
+    let all = merge_labels(
+        work,
+        Span { from: m, to: end },
+        Span { from: n, to: end2 },
+        Span { from: e, to: stop },
+    );
+    finish(work, room.from, 2, all)
 }
 
-/// p where x is less than y, else q.
-fn choose(x: u16, y: u16, p: usize, q: usize) -> usize
-    ensures { λ r. ⌜ r ≡ cond (ltb x y) p q ⌝ }
+/// `below` where the label is less than the bound, else `otherwise`.
+fn choose(label: u16, bound: u16, below: usize, otherwise: usize) -> usize
+    ensures { λ r. ⌜ r ≡ cond (ltb label bound) below otherwise ⌝ }
 {
-    if x < y { p } else { q }
+    if label < bound { below } else { otherwise }
 }
 
-/// All labels of both. The finger on the greater of two labels stays where it is.
-fn merge_labels(
-    w: &mut [u8],
-    i: usize,
-    ie: usize,
-    j: usize,
-    je: usize,
-    d: usize,
-    stop: usize,
-) -> Out
-    requires { ⌜ MergeReady labelsBytes (now w) i ie j je d stop ⌝ }
-    ensures { λ r. ⌜ Merged labelsBytes mergeTwoL (now (w .entry)) (now (w .exit)) i ie j je d stop r ⌝ }
+/// All labels of both. The place of the greater of two labels stays as it is.
+fn merge_labels(work: &mut [u8], one: Span, other: Span, room: Span) -> Out
+    requires { ⌜ MergeReady labelsBytes (now work) one other room ⌝ }
+    ensures { λ r. ⌜ Merged labelsBytes mergeTwoL (now (work .entry)) (now (work .exit)) one other room r ⌝ }
 {
-    let mut p = i;
-    let mut q = j;
-    let mut at = d;
-    while p != ie {
-        if q == je {
-            return copy(w, p, ie, at, stop);
+    let end = one.to;
+    let end2 = other.to;
+    let stop = room.to;
+    let mut p = one.from;
+    let mut q = other.from;
+    let mut at = room.from;
+    while p != end {
+        let left = Span { from: at, to: stop };
+        if q == end2 {
+            return copy(work, Span { from: p, to: end }, left);
         }
-        let m = field_end(w, p);
-        let n = field_end(w, q);
-        let x = label_at(w, p);
-        let y = label_at(w, q);
-        let one = merge_first(w, p, m, q, n, at, stop);
-        let Out::At(e) = one else {
+        let m = field_end(work, p);
+        let n = field_end(work, q);
+        let x = label_at(work, p);
+        let y = label_at(work, q);
+        let first = merge_first(work, Span { from: p, to: m }, Span { from: q, to: n }, left);
+        let Out::At(e) = first else {
             return Out::TooLarge;
         };
         p = choose(y, x, p, m);
         q = choose(x, y, q, n);
         at = e;
     }
-    copy(w, q, je, at, stop)
+    let rest = Span { from: q, to: end2 };
+    copy(work, rest, Span { from: at, to: stop })
 }
 
 /// The first label of a merge, with its array: the lesser of two, or both merged.
-fn merge_first(w: &mut [u8], i: usize, ie: usize, j: usize, je: usize, d: usize, stop: usize) -> Out
-    requires { ⌜ MergeReady entryOf (now w) i ie j je d stop ⌝ }
-    ensures { λ r. ⌜ Merged entryOf mergeFirst (now (w .entry)) (now (w .exit)) i ie j je d stop r ⌝ }
+fn merge_first(work: &mut [u8], one: Span, other: Span, room: Span) -> Out
+    requires { ⌜ MergeReady entryOf (now work) one other room ⌝ }
+    ensures { λ r. ⌜ Merged entryOf mergeFirst (now (work .entry)) (now (work .exit)) one other room r ⌝ }
 {
-    let x = label_at(w, i);
-    let y = label_at(w, j);
+    let x = label_at(work, one.from);
+    let y = label_at(work, other.from);
     if x < y {
-        return copy(w, i, ie, d, stop);
+        return copy(work, one, room);
     }
     if y < x {
-        return copy(w, j, je, d, stop);
+        return copy(work, other, room);
     }
-    merge_entry(w, i, ie, j, je, d, stop)
+    merge_entry(work, one, other, room)
 }
 
-/// A label that both have, with the two arrays merged. The label is copied as it stands.
-fn merge_entry(w: &mut [u8], i: usize, ie: usize, j: usize, je: usize, d: usize, stop: usize) -> Out
-    requires { ⌜ MergeReady entryOf (now w) i ie j je d stop ⌝ }
-    ensures { λ r. ⌜ Merged entryOf mergeEntry (now (w .entry)) (now (w .exit)) i ie j je d stop r ⌝ }
+/// A label that both have, with the two arrays merged. The label is copied as it stands, and n bytes go before the
+/// trees.
+fn merge_entry(work: &mut [u8], one: Span, other: Span, room: Span) -> Out
+    requires { ⌜ MergeReady entryOf (now work) one other room ⌝ }
+    ensures { λ r. ⌜ Merged entryOf mergeEntry (now (work .entry)) (now (work .exit)) one other room r ⌝ }
 {
-    if stop - d < 7 {
+    let i = one.from;
+    let end = one.to;
+    let end2 = other.to;
+    let d = room.from;
+    let stop = room.to;
+    let n = heads(label_at(work, i));
+    let x = i + n;
+    let y = trees_at(work, other.from);
+    if stop - d < n {
         return Out::TooLarge;
     }
-    copy(w, i + 3, i + 4, d + 3, stop);
-    let trees = merge_trees(w, i + 7, ie, j + 7, je, d + 7, stop);
-    let array = finish(w, d + 4, 1, trees);
-    finish(w, d, 7, array)
+    let at = d + n;
+    let tag = work[i];
+    let label = Span {
+        from: i + 3,
+        to: x - 3,
+    };
+    let front = Span {
+        from: d + 3,
+        to: stop,
+    };
+    copy(work, label, front);
+    let trees = merge_trees(
+        work,
+        Span { from: x, to: end },
+        Span { from: y, to: end2 },
+        Span { from: at, to: stop },
+    );
+    let array = finish(work, at - 3, 1, trees);
+    finish(work, d, tag, array)
 }
 
 /// Two arrays position by position, and the surplus of the longer.
-fn merge_trees(w: &mut [u8], i: usize, ie: usize, j: usize, je: usize, d: usize, stop: usize) -> Out
-    requires { ⌜ MergeReady treesBytes (now w) i ie j je d stop ⌝ }
-    ensures { λ r. ⌜ Merged treesBytes mergeTwoA (now (w .entry)) (now (w .exit)) i ie j je d stop r ⌝ }
+fn merge_trees(work: &mut [u8], one: Span, other: Span, room: Span) -> Out
+    requires { ⌜ MergeReady treesBytes (now work) one other room ⌝ }
+    ensures { λ r. ⌜ Merged treesBytes mergeTwoA (now (work .entry)) (now (work .exit)) one other room r ⌝ }
 {
-    let mut a = i;
-    let mut b = j;
-    let mut at = d;
-    while a != ie {
-        if b == je {
-            return copy(w, a, ie, at, stop);
+    let end = one.to;
+    let end2 = other.to;
+    let stop = room.to;
+    let mut a = one.from;
+    let mut b = other.from;
+    let mut at = room.from;
+    while a != end {
+        let left = Span { from: at, to: stop };
+        if b == end2 {
+            return copy(work, Span { from: a, to: end }, left);
         }
-        let m = field_end(w, a);
-        let n = field_end(w, b);
-        let one = merge_node(w, a, m, b, n, at, stop);
-        let Out::At(e) = one else {
+        let m = field_end(work, a);
+        let n = field_end(work, b);
+        let first = merge_node(work, Span { from: a, to: m }, Span { from: b, to: n }, left);
+        let Out::At(e) = first else {
             return Out::TooLarge;
         };
         a = m;
         b = n;
         at = e;
     }
-    copy(w, b, je, at, stop)
+    let rest = Span { from: b, to: end2 };
+    copy(work, rest, Span { from: at, to: stop })
 }

@@ -10,7 +10,8 @@ use lib.ListN.{length, take, drop, length-take, length-drop}
 use lib.Seq.{slice, length-slice, slice-empty}
 use Rattle.spec_trees.specs.Tree.{Tree, trees}
 use Rattle.spec_trees.specs.Bytes.{fieldBytes, bytes, treeF, treeFs, treeBytes}
-use Rattle.areas.specs.Area.{Is, fieldEnd}
+use Rattle.areas.specs.Area.{Is, fieldEnd, IsAt, span}
+use Rattle.areas.specs.declared.span.Span.{Span}
 use Rattle.areas.specs.AreaLaws.{is-part, is-left, is-right, is-join}
 use Rattle.format.specs.Stand.{treesBytes, Holds}
 use Rattle.areas.specs.Compare.{sameBytes}
@@ -104,26 +105,26 @@ pub compared-none : {o : List ℕ} {at : ℕ} → at ≤ length o → ComparedIs
 compared-none {o} {at} l = subst (λ xs. ComparedIs o at xs (At at)) none-bytes (same-is (is-none l))
 
 -- an array, tree by tree
-module _ (q : List ℕ) (p e i : ℕ) (s : List ℕ) (a b : ℕ) (o : List ℕ) (at : ℕ) where
-  pub compared-end : at ≤ length o → a ≡ b → TellsJoined q p e i s a b (λ x. ComparedIs o at (givenBytes x) (At at))
-  compared-end l z = joined-end q p e i s a b (λ x. ComparedIs o at (givenBytes x) (At at)) z (compared-none l)
+module _ (q : List ℕ) (p : Span) (i : ℕ) (s : List ℕ) (a b : ℕ) (o : List ℕ) (at : ℕ) where
+  pub compared-end : at ≤ length o → a ≡ b → TellsJoined q p i s (span a b) (λ x. ComparedIs o at (givenBytes x) (At at))
+  compared-end l z = joined-end q p i s a b (λ x. ComparedIs o at (givenBytes x) (At at)) z (compared-none l)
 
-  module _ {m : ℕ} (z : a ≡ b → ⊥) (g : m ≡ fieldEnd s a) {d : Compared} (f : Tells q p e i s a m (λ x. ComparedIs o at (givenBytes x) d)) where
-    pub compared-here : d ≡ Differs → TellsJoined q p e i s a b (λ x. ComparedIs o at (givenBytes x) Differs)
+  module _ {m : ℕ} (z : a ≡ b → ⊥) (g : m ≡ fieldEnd s a) {d : Compared} (f : Tells q p i s (span a m) (λ x. ComparedIs o at (givenBytes x) d)) where
+    pub compared-here : d ≡ Differs → TellsJoined q p i s (span a b) (λ x. ComparedIs o at (givenBytes x) Differs)
     compared-here w =
-        joined-next q p e i s a b (λ x. ComparedIs o at (givenBytes x) d) (λ x. Unit {0}) (λ x. ComparedIs o at (givenBytes x) Differs) z g
+        joined-next q p i s a b (λ x. ComparedIs o at (givenBytes x) d) (λ x. Unit {0}) (λ x. ComparedIs o at (givenBytes x) Differs) z g
         (λ x y h _. subst (λ l. ComparedIs o at l Differs) (sym (join-bytes x y)) (compared-stop (givenBytes x) (givenBytes y) h w))
         f (λ path ts h c. tt)
 
-    pub compared-on : {k : ℕ} → d ≡ At k → (r : Compared) → TellsJoined q p e i s m b (λ x. ComparedIs o k (givenBytes x) r)
-        → TellsJoined q p e i s a b (λ x. ComparedIs o at (givenBytes x) r)
+    pub compared-on : {k : ℕ} → d ≡ At k → (r : Compared) → TellsJoined q p i s (span m b) (λ x. ComparedIs o k (givenBytes x) r)
+        → TellsJoined q p i s (span a b) (λ x. ComparedIs o at (givenBytes x) r)
     compared-on {k} w r =
-        joined-next q p e i s a b (λ x. ComparedIs o at (givenBytes x) d) (λ x. ComparedIs o k (givenBytes x) r) (λ x. ComparedIs o at (givenBytes x) r) z g
+        joined-next q p i s a b (λ x. ComparedIs o at (givenBytes x) d) (λ x. ComparedIs o k (givenBytes x) r) (λ x. ComparedIs o at (givenBytes x) r) z g
         (λ x y h c. subst (λ l. ComparedIs o at l r) (sym (join-bytes x y)) (compared-next (givenBytes x) (givenBytes y) h w c)) f
 
 -- an answer is a place in the other bytes
-pub compared-room : {q : List ℕ} {p e i : ℕ} {s : List ℕ} {a b : ℕ} {o : List ℕ} {at k : ℕ} {d : Compared} → Walk treeBytes q p e i s a b
-    → Tells q p e i s a b (λ x. ComparedIs o at (givenBytes x) d) → d ≡ At k → k ≤ length o
+pub compared-room : {q : List ℕ} {p : Span} {i : ℕ} {s : List ℕ} {a b : ℕ} {o : List ℕ} {at k : ℕ} {d : Compared} → Walk treeBytes q p i s (span a b)
+    → Tells q p i s (span a b) (λ x. ComparedIs o at (givenBytes x) d) → d ≡ At k → k ≤ length o
 compared-room {k = k} w h z = h (w .path .value) (w .stands .value) (w .path .value-is) (w .stands .value-is) .same k z .inside
 
 -- what stands there stands inside

@@ -13,7 +13,8 @@ use Rattle.format.specs.declared.labels.Found.{Found}
 use Rattle.format.specs.declared.labels.Found.the-variants.{Part, Missing}
 use Rattle.spec_trees.specs.Tree.{Tree, list, trees, bareVoid}
 use Rattle.spec_trees.specs.Bytes.{treeBytes}
-use Rattle.areas.specs.Area.{Is}
+use Rattle.areas.specs.Area.{Is, IsAt, span}
+use Rattle.areas.specs.declared.span.Span.{Span}
 use Rattle.areas.specs.AreaLaws.{is-part}
 use Rattle.areas.specs.Compare.{sameBytes}
 use Rattle.areas.specs.CompareLaws.{equal-same, same-equal}
@@ -26,7 +27,7 @@ use Rattle.paths.specs.declared.path.Compared.{Compared}
 use Rattle.paths.specs.declared.path.Compared.the-variants.{At, Differs}
 use Rattle.spec_stages.specs.Paths.{Given, present}
 use Rattle.spec_stages.specs.Equality.{sameGiven}
-use Rattle.paths.specs.Walk.{given, givenBytes, isArray, isPart, ElementIs, ComparedIs, OperandIs}
+use Rattle.paths.specs.Walk.{given, givenBytes, isArray, isPart, Walk, Tells, FoundInside, ElementIs, ComparedIs, OperandIs}
 use Rattle.paths.specs.WalkLaws.{present-some, present-none}
 use Rattle.paths.specs.SameLaws.{absent-same, other-absent, present-same, length-equal, element-equal, elements-equal}
 
@@ -72,7 +73,7 @@ module _ (x : Given) (o : List ℕ) where
   pub array-given : {r : Bool} → present x ≡ true → r ≡ sameBytes (givenBytes x) o → r ≡ isArray x o
   array-given q e = e ∙ sym (ap (λ b. b && sameBytes (givenBytes x) o) q)
 
-  pub array-part : {s : List ℕ} {a b f t : ℕ} {r : Bool} → ArrayIs s a b x f t → r ≡ sameBytes (take (t - f) (drop f s)) o → r ≡ isArray x o
+  pub array-part : {s : List ℕ} {a b f t : ℕ} {r : Bool} → ArrayIs s (span a b) x (span f t) → r ≡ sameBytes (take (t - f) (drop f s)) o → r ≡ isArray x o
   unfolding given
   array-part c e =
       let k : givenBytes x ≡ treesBytes (c .array) = ap givenBytes (c .same) ∙ ap treesBytes (trees-list (c .array)) in
@@ -89,32 +90,38 @@ is-array x a {o} {r} ox oa q e = go (present x) refl
     go false p = e ∙ ap (λ b. b && sameBytes (givenBytes x) o) p ∙ ap not (present-some a) ∙ absent-same x (some a) p
 
 -- an application beside one that stands in one piece, or is absent
-module _ (x : Given) {y : Given} {s : List ℕ} {a b : ℕ} {found : Found} (h : FoundIs s a b y found) where
+module _ (x : Given) {y : Given} {s : List ℕ} {a b : ℕ} {found : Found} (h : FoundIs s (span a b) y found) where
   pub piece-missing : {r : Bool} → found ≡ Missing → r ≡ present x → not r ≡ sameGiven x y
   piece-missing z e = ap not e ∙ other-absent x y (ap present (h .missing z) ∙ sym present-none)
 
-  pub piece-same : {f t : ℕ} {o : List ℕ} {r : Bool} → found ≡ Part f t → OperandIs s f t o → AllowedA (given x) → AllowedA (given y) → r ≡ isArray x o → r ≡ sameGiven x y
+  pub piece-same : {f t : ℕ} {o : List ℕ} {r : Bool} → found ≡ Part (span f t) → OperandIs s (span f t) o → AllowedA (given x) → AllowedA (given y) → r ≡ isArray x o → r ≡ sameGiven x y
   unfolding given
   piece-same {f} {t} {o} {r} z k ox oy e =
-      let c = h .part f t z in
+      let c = h .part (span f t) z in
       subst (λ i. r ≡ sameGiven x i) (sym (c .same))
       (is-array x (list (c .array)) ox (subst (λ i. AllowedA (given i)) (c .same) oy) (k (c .array) (c .array-is) ∙ sym (ap treesBytes (trees-list (c .array)))) e)
 
 -- two that stand in one piece, or are absent
-part-present : {x : Given} {s : List ℕ} {a b : ℕ} (found : Found) → FoundIs s a b x found → isPart found ≡ present x
-part-present (Part f t) h = present-some (list (h .part f t refl .array)) ∙ sym (ap present (h .part f t refl .same))
+part-present : {x : Given} {s : List ℕ} {a b : ℕ} (found : Found) → FoundIs s (span a b) x found → isPart found ≡ present x
+part-present (Part at) h = present-some (list (h .part at refl .array)) ∙ sym (ap present (h .part at refl .same))
 part-present Missing h = present-none ∙ sym (ap present (h .missing refl))
 
-module _ {x y : Given} {s : List ℕ} {a b : ℕ} {s2 : List ℕ} {a2 b2 : ℕ} {one other : Found} (h : FoundIs s a b x one) (k : FoundIs s2 a2 b2 y other) where
+module _ {x y : Given} {s : List ℕ} {a b : ℕ} {s2 : List ℕ} {a2 b2 : ℕ} {one other : Found} (h : FoundIs s (span a b) x one) (k : FoundIs s2 (span a2 b2) y other) where
   pub pieces-missing : {r : Bool} → other ≡ Missing → r ≡ isPart one → not r ≡ sameGiven x y
   pieces-missing z e = piece-missing x k z (e ∙ part-present one h)
 
-  module _ {g u : ℕ} (z : other ≡ Part g u) (ox : AllowedA (given x)) (oy : AllowedA (given y)) where
+  module _ {g u : ℕ} (z : other ≡ Part (span g u)) (ox : AllowedA (given x)) (oy : AllowedA (given y)) where
     pub pieces-other : one ≡ Missing → false ≡ sameGiven x y
     pieces-other m = piece-same x k z (λ ts i. is-part i) ox oy (array-missing x (take (u - g) (drop g s2)) (h .missing m))
 
-    pub pieces-same : {f t : ℕ} {r : Bool} → one ≡ Part f t → r ≡ sameBytes (take (t - f) (drop f s)) (take (u - g) (drop g s2)) → r ≡ sameGiven x y
-    pieces-same {f} {t} m e = piece-same x k z (λ ts i. is-part i) ox oy (array-part x (take (u - g) (drop g s2)) (h .part f t m) e)
+    pub pieces-same : {f t : ℕ} {r : Bool} → one ≡ Part (span f t) → r ≡ sameBytes (take (t - f) (drop f s)) (take (u - g) (drop g s2)) → r ≡ sameGiven x y
+    pieces-same {f} {t} m e = piece-same x k z (λ ts i. is-part i) ox oy (array-part x (take (u - g) (drop g s2)) (h .part (span f t) m) e)
+
+-- what a walk finds stands within the area
+pub walk-found : {q s : List ℕ} {p at : Span} {found : Found} (w : Walk treeBytes q p 0 s at) → Tells q p 0 s at (λ x. FoundIs s at x found) → FoundInside s found
+walk-found w k one z =
+    let i = k (w .path .value) (w .stands .value) (w .path .value-is) (w .stands .value-is) .part one z .array-is in
+    (omega (arith, i .ends), i .inside)
 
 -- ---- tree by tree
 module _ (xs ys : List Tree) where
@@ -139,11 +146,11 @@ module _ (xs ys : List Tree) where
   elements-all j q l h = sym (equal-same _ _ (elements-equal xs ys q (λ k m. h k (omega arith))))
 
 -- the two trees, where they stand
-pub nth-same : {s s2 : List ℕ} {a b a2 b2 j f t g u : ℕ} {xs ys : List Tree} {o o2 : Element} {r : Bool}
-    → ElementIs s a b j xs o → ElementIs s2 a2 b2 j ys o2 → o ≡ element.Part f t → o2 ≡ element.Part g u
-    → r ≡ sameBytes (take (t - f) (drop f s)) (take (u - g) (drop g s2)) → r ≡ sameBytes (treeBytes (getD xs j bareVoid)) (treeBytes (getD ys j bareVoid))
-nth-same {f = f} {t = t} {g = g} {u = u} h k z y e =
-    e ∙ ap₂ sameBytes (is-part (h .part f t z .tree-is)) (is-part (k .part g u y .tree-is))
+pub nth-same : {s s2 : List ℕ} {a b a2 b2 j : ℕ} {f g : Span} {xs ys : List Tree} {o o2 : Element} {r : Bool}
+    → ElementIs s (span a b) j xs o → ElementIs s2 (span a2 b2) j ys o2 → o ≡ element.Part f → o2 ≡ element.Part g
+    → r ≡ sameBytes (take (f .to - f .from) (drop (f .from) s)) (take (g .to - g .from) (drop (g .from) s2)) → r ≡ sameBytes (treeBytes (getD xs j bareVoid)) (treeBytes (getD ys j bareVoid))
+nth-same {f = f} {g = g} h k z y e =
+    e ∙ ap₂ sameBytes (is-part (h .part f z .tree-is)) (is-part (k .part g y .tree-is))
 
-pub nth-fewer : {s : List ℕ} {a b j n : ℕ} {xs : List Tree} {o : Element} → ElementIs s a b j xs o → o ≡ element.Fewer n → j < length xs → ⊥
+pub nth-fewer : {s : List ℕ} {a b j n : ℕ} {xs : List Tree} {o : Element} → ElementIs s (span a b) j xs o → o ≡ element.Fewer n → j < length xs → ⊥
 nth-fewer {n = n} h z l = omega (arith, h .fewer n z)

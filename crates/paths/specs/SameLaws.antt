@@ -11,7 +11,7 @@ use lib.Dec.{eqb}
 use Rattle.spec_trees.specs.Options.{_>>=_}
 use Rattle.spec_trees.specs.Lists.{each}
 use Rattle.spec_trees.specs.Limits.{treeMax, depthMax}
-use Rattle.spec_trees.specs.Tree.{Tree, node, Trees, ε, _▹_, Labels, bare, label, list, trees, labels, bareVoid, find}
+use Rattle.spec_trees.specs.Tree.{Tree, node, Trees, ε, _▹_, Labels, bare, label, list, trees, bareVoid, find}
 use Rattle.spec_trees.specs.Size.{size, sizeA, sizeL, depth, depthA, depthL}
 use Rattle.spec_trees.specs.SizeLaws.{treeFs-map}
 use Rattle.spec_trees.specs.Bytes.{fieldBytes, bytes, treeF, treeFs, treeBytes}
@@ -26,8 +26,8 @@ use Rattle.spec_trees.specs.ArrayLaws.{tree-law}
 use Rattle.areas.specs.Compare.{sameBytes}
 use Rattle.areas.specs.CompareLaws.{equal-same, same-equal}
 use Rattle.format.specs.Stand.{treesBytes}
-use Rattle.spec_queries.specs.Query.{Path}
-use Rattle.spec_stages.specs.Paths.{Given, present, joins, over, apply}
+use Rattle.spec_queries.specs.Query.{Route}
+use Rattle.spec_stages.specs.Paths.{Given, present, joins, over, reached, apply}
 use Rattle.spec_stages.specs.DecisionLaws.{given?}
 use Rattle.spec_stages.specs.Equality.{sameGiven}
 use Rattle.spec_stages.specs.EqualityLaws.{same-given}
@@ -58,9 +58,9 @@ allowed-find k bare m o s d = tt
 allowed-find k (label j a ls) m o s d =
     cond-cases AllowedF (eqb k j) (λ e. allowed-list a (o .2) (omega arith) (omega arith)) (λ e. allowed-find k ls j (o .3) (omega arith) (omega arith))
 
-allowed-under : (k : ℕ) (t : Tree) → Allowed depthMax t → AllowedF (find k (labels t))
-unfolding size depth
-allowed-under k (node r ls) o = allowed-find k ls 0 (o .ok .1) (omega (arith, o .small)) (omega (arith, o .shallow))
+allowed-reached : (k : ℕ) (t : Tree) → Allowed depthMax t → AllowedF (reached k t)
+unfolding size depth reached
+allowed-reached k (node r ls) o = allowed-find k ls 0 (o .ok .1) (omega (arith, o .small)) (omega (arith, o .shallow))
 
 allowed-joins : (f : Tree → Given) → ((t : Tree) → Allowed depthMax t → AllowedF (f t)) → (ts : List Tree) → AllowedA ts → AllowedF (joins (map f ts))
 unfolding joins given
@@ -73,10 +73,10 @@ unfolding given _>>=_
 allowed-over f h none o = tt
 allowed-over f h (some a) o = subst AllowedA (sym (given-over f a)) (allowed-joins f h a o)
 
-pub apply-allowed : (p : Path) (t : Tree) → Allowed depthMax t → AllowedA (given (apply p t))
+pub apply-allowed : (p : Route) (t : Tree) → Allowed depthMax t → AllowedA (given (apply p t))
 unfolding apply given
 apply-allowed [] t o = (o, tt)
-apply-allowed (k ∷ p) t o = allowed-over (apply p) (apply-allowed p) (find k (labels t)) (allowed-under k t o)
+apply-allowed (k ∷ p) t o = allowed-over (apply p) (apply-allowed p) (reached k t) (allowed-reached k t o)
 
 -- ---- equal applications
 not-same : (x y : Given) → (x ≡ y → ⊥) → false ≡ sameGiven x y

@@ -7,10 +7,11 @@
 ghost use mathlib.Core.Path.{_≡_};
 ghost use Rattle.spec_trees.specs.Bytes.{treeBytes};
 ghost use Rattle.areas.specs.Compare.{sameBytes};
-ghost use Rattle.format.specs.Stand.{treesBytes, Holds};
+ghost use Rattle.format.specs.Stand.{treesBytes};
+ghost use Rattle.queries.specs.Places.{HoldsAt};
 ghost use Prim.Native.Nat.{_≤_};
 ghost use Rattle.queries.specs.Steps.{stepCount};
-ghost use Rattle.paths.specs.Walk.{givenBytes, isArray, isPart, Walk, Tells, TellsBoth, SameNth, EqualsLiteral, EqualPaths};
+ghost use Rattle.paths.specs.Walk.{application, givenBytes, isArray, isPart, Walk, Tells, TellsBoth, SameNth, EqualsLiteral, FoundInside, SameFound, EqualPaths};
 use crate::path::Compared;
 use crate::path::Element;
 use crate::path::count;
@@ -20,19 +21,27 @@ use crate::path::operand;
 use crate::path::piece;
 use crate::path::present;
 use areas::compare::same_bytes;
+use areas::span::Span;
 use format::labels::Found;
 use queries::path::steps;
 
-/// Whether o is the bytes of the trees that the path gives of the tree from a to b, no fewer and no more.
-fn gives(q: &[u8], p: usize, e: usize, s: &[u8], a: usize, b: usize, o: &[u8]) -> bool
-    requires { ⌜ Walk treeBytes (now q) p e 0 (now s) a b ⌝ }
-    ensures { λ r. ⌜ Tells (now (q .entry)) p e 0 (now (s .entry)) a b (λ x. r ≡ sameBytes (givenBytes x) (now (o .entry))) ⌝ }
+/// A path, which stands in a query, and the tree to which it is applied. Spans by themselves are cheaper to pass on; this
+/// is for a function that would else have too many parameters.
+pub struct Application {
+    pub path: Span,
+    pub tree: Span,
+}
+
+/// Whether `array` is the bytes of the trees that the path gives of the tree, no fewer and no more.
+fn gives(query: &[u8], path: Span, area: &[u8], tree: Span, array: &[u8]) -> bool
+    requires { ⌜ Walk treeBytes (now query) path 0 (now area) tree ⌝ }
+    ensures { λ r. ⌜ Tells (now (query .entry)) path 0 (now (area .entry)) tree (λ x. r ≡ sameBytes (givenBytes x) (now (array .entry))) ⌝ }
 {
-    let r = matches_at(q, p, e, 0, s, a, b, o, 0);
+    let r = matches_at(query, path, 0, area, tree, array, 0);
     let Compared::At(n) = r else {
         return false;
     };
-    n == o.len()
+    n == array.len()
 }
 
 /// Whether an application that stands in one piece, or is absent, is present.
@@ -40,101 +49,99 @@ fn is_part(found: Found) -> bool
     ensures { λ r. ⌜ r ≡ isPart found ⌝ }
 {
     match found {
-        Found::Part(f, t) => true,
+        Found::Part(part) => true,
         Found::Missing => false,
     }
 }
 
-/// Whether the path gives of the tree from a to b the array o.
-fn path_is(q: &[u8], p: usize, e: usize, s: &[u8], a: usize, b: usize, o: &[u8]) -> bool
-    requires { ⌜ Walk treeBytes (now q) p e 0 (now s) a b ⌝ }
-    ensures { λ r. ⌜ Tells (now (q .entry)) p e 0 (now (s .entry)) a b (λ x. r ≡ isArray x (now (o .entry))) ⌝ }
+/// Whether the path gives of the tree the array whose trees' bytes are `array`.
+fn path_is(query: &[u8], path: Span, area: &[u8], tree: Span, array: &[u8]) -> bool
+    requires { ⌜ Walk treeBytes (now query) path 0 (now area) tree ⌝ }
+    ensures { λ r. ⌜ Tells (now (query .entry)) path 0 (now (area .entry)) tree (λ x. r ≡ isArray x (now (array .entry))) ⌝ }
 {
-    if steps(p, e) <= 1 {
-        let found = piece(q, p, e, s, a, b);
-        let Found::Part(f, t) = found else {
+    if steps(query, path) <= 1 {
+        let found = piece(query, path, area, tree);
+        let Found::Part(part) = found else {
             return false;
         };
-        return same_bytes(&s[f..t], o);
+        let f = part.from;
+        let t = part.to;
+        return same_bytes(&area[f..t], array);
     }
-    if !present(q, p, e, 0, s, a, b) {
+    if !present(query, path, 0, area, tree) {
         return false;
     }
-    gives(q, p, e, s, a, b, o)
+    gives(query, path, area, tree, array)
 }
 
-/// Whether the path gives of the tree from a to b the literal's array, whose trees stand in the query from lit to end.
+/// Whether the path gives of the tree the literal's array, whose trees stand in the query.
 pub fn path_equals_literal<'a>(
-    q: &'a [u8],
-    p: usize,
-    e: usize,
-    lit: usize,
-    end: usize,
-    s: &'a [u8],
-    a: usize,
-    b: usize,
+    query: &'a [u8],
+    path: Span,
+    literal: Span,
+    area: &'a [u8],
+    tree: Span,
 ) -> bool
-    requires { ⌜ Walk treeBytes (now q) p e 0 (now s) a b × Holds treesBytes (now q) lit end ⌝ }
-    ensures { λ r. ⌜ EqualsLiteral (now (q .entry)) p e lit end (now (s .entry)) a b r ⌝ }
+    requires { ⌜ Walk treeBytes (now query) path 0 (now area) tree × HoldsAt treesBytes (now query) literal ⌝ }
+    ensures { λ r. ⌜ EqualsLiteral (now (query .entry)) path literal (now (area .entry)) tree r ⌝ }
 {
-    let o = operand(q, s, true, lit, end);
-    path_is(q, p, e, s, a, b, o)
+    let array = operand(query, area, true, literal);
+    path_is(query, path, area, tree, array)
 }
 
-/// Whether tree j of what two paths give is the same, if both give so many.
+/// Whether tree j of what two applications give is the same, if both give so many.
 fn same_nth(
-    q: &[u8],
-    p: usize,
-    e: usize,
-    p2: usize,
-    e2: usize,
-    s: &[u8],
-    a: usize,
-    b: usize,
-    s2: &[u8],
-    a2: usize,
-    b2: usize,
+    query: &[u8],
+    area: &[u8],
+    one: Application,
+    area2: &[u8],
+    other: Application,
     j: usize,
 ) -> bool
-    requires { ⌜ Walk treeBytes (now q) p e 0 (now s) a b × Walk treeBytes (now q) p2 e2 0 (now s2) a2 b2 ⌝ }
-    ensures { λ r. ⌜ TellsBoth (now (q .entry)) p e p2 e2 (now (s .entry)) a b (now (s2 .entry)) a2 b2 (SameNth j r) ⌝ }
+    requires { ⌜ Walk treeBytes (now query) (one .path) 0 (now area) (one .tree) × Walk treeBytes (now query) (other .path) 0 (now area2) (other .tree) ⌝ }
+    ensures { λ r. ⌜ TellsBoth (now (query .entry)) (now (area .entry)) one (now (area2 .entry)) other (SameNth j r) ⌝ }
 {
-    let one = nth(q, p, e, 0, s, a, b, j);
-    let Element::Part(f, t) = one else {
+    let first = nth(query, one.path, 0, area, one.tree, j);
+    let Element::Part(part) = first else {
         return false;
     };
-    let other = nth(q, p2, e2, 0, s2, a2, b2, j);
-    let Element::Part(g, u) = other else {
+    let second = nth(query, other.path, 0, area2, other.tree, j);
+    let Element::Part(part2) = second else {
         return false;
     };
-    same_bytes(&s[f..t], &s2[g..u])
+    let f = part.from;
+    let t = part.to;
+    let g = part2.from;
+    let u = part2.to;
+    same_bytes(&area[f..t], &area2[g..u])
 }
 
 /// Whether two paths of any length give the same trees, tree by tree. For each tree both are walked from their
 /// beginnings.
 fn same_elements(
-    q: &[u8],
-    p: usize,
-    e: usize,
-    p2: usize,
-    e2: usize,
-    s: &[u8],
-    a: usize,
-    b: usize,
-    s2: &[u8],
-    a2: usize,
-    b2: usize,
+    query: &[u8],
+    path: Span,
+    area: &[u8],
+    tree: Span,
+    path2: Span,
+    area2: &[u8],
+    tree2: Span,
 ) -> bool
-    requires { ⌜ Walk treeBytes (now q) p e 0 (now s) a b × Walk treeBytes (now q) p2 e2 0 (now s2) a2 b2 ⌝ }
-    ensures { λ r. ⌜ TellsBoth (now (q .entry)) p e p2 e2 (now (s .entry)) a b (now (s2 .entry)) a2 b2 (λ x y. r ≡ sameBytes (givenBytes x) (givenBytes y)) ⌝ }
+    requires { ⌜ Walk treeBytes (now query) path 0 (now area) tree × Walk treeBytes (now query) path2 0 (now area2) tree2 ⌝ }
+    ensures { λ r. ⌜ TellsBoth (now (query .entry)) (now (area .entry)) (application path tree) (now (area2 .entry)) (application path2 tree2) (λ x y. r ≡ sameBytes (givenBytes x) (givenBytes y)) ⌝ }
 {
-    let n = count(q, p, e, 0, s, a, b);
-    if count(q, p2, e2, 0, s2, a2, b2) != n {
+    let n = count(query, path, 0, area, tree);
+    if count(query, path2, 0, area2, tree2) != n {
         return false;
     }
+    let one = Application { path, tree };
+    let other = Application {
+        path: path2,
+        tree: tree2,
+    };
     let mut j = 0;
     while j < n {
-        if !same_nth(q, p, e, p2, e2, s, a, b, s2, a2, b2, j) {
+        if !same_nth(query, area, one, area2, other, j) {
             return false;
         }
         j += 1;
@@ -142,134 +149,147 @@ fn same_elements(
     true
 }
 
-/// Whether two applications are equal that are both of paths of at most one label: each stands in one piece.
-fn same_pieces(
-    q: &[u8],
-    p: usize,
-    e: usize,
-    p2: usize,
-    e2: usize,
-    s: &[u8],
-    a: usize,
-    b: usize,
-    s2: &[u8],
-    a2: usize,
-    b2: usize,
-) -> bool
-    requires { ⌜ Walk treeBytes (now q) p e 0 (now s) a b × (stepCount p e ≤ 1) × Walk treeBytes (now q) p2 e2 0 (now s2) a2 b2 × (stepCount p2 e2 ≤ 1) ⌝ }
-    ensures { λ r. ⌜ EqualPaths (now (q .entry)) p e p2 e2 (now (s .entry)) a b (now (s2 .entry)) a2 b2 r ⌝ }
+/// Whether two that were found in one piece, or are missing, are equal.
+fn same_found(area: &[u8], first: Found, area2: &[u8], second: Found) -> bool
+    requires { ⌜ FoundInside (now area) first × FoundInside (now area2) second ⌝ }
+    ensures { λ r. ⌜ SameFound (now (area .entry)) first (now (area2 .entry)) second r ⌝ }
 {
-    let one = piece(q, p, e, s, a, b);
-    let other = piece(q, p2, e2, s2, a2, b2);
-    let Found::Part(g, u) = other else {
-        return !is_part(one);
+    let Found::Part(part2) = second else {
+        return !is_part(first);
     };
-    let Found::Part(f, t) = one else {
+    let Found::Part(part) = first else {
         return false;
     };
-    same_bytes(&s[f..t], &s2[g..u])
+    let f = part.from;
+    let t = part.to;
+    let g = part2.from;
+    let u = part2.to;
+    same_bytes(&area[f..t], &area2[g..u])
+}
+
+/// Whether two applications are equal that are both of paths of at most one label: each stands in one piece.
+fn same_pieces(
+    query: &[u8],
+    path: Span,
+    area: &[u8],
+    tree: Span,
+    path2: Span,
+    area2: &[u8],
+    tree2: Span,
+) -> bool
+    requires { ⌜ Walk treeBytes (now query) path 0 (now area) tree × (stepCount (now query) path ≤ 1) × Walk treeBytes (now query) path2 0 (now area2) tree2 × (stepCount (now query) path2 ≤ 1) ⌝ }
+    ensures { λ r. ⌜ EqualPaths (now (query .entry)) (now (area .entry)) (application path tree) (now (area2 .entry)) (application path2 tree2) r ⌝ }
+{
+    let first = piece(query, path, area, tree);
+    let second = piece(query, path2, area2, tree2);
+    same_found(area, first, area2, second)
 }
 
 /// Whether two applications are equal, of which the second is that of a path of at most one label: what it gives
 /// stands in one piece, and the other is looked at beside it.
 fn same_as_piece<'a>(
-    q: &'a [u8],
-    p: usize,
-    e: usize,
-    p2: usize,
-    e2: usize,
-    s: &'a [u8],
-    a: usize,
-    b: usize,
-    s2: &'a [u8],
-    a2: usize,
-    b2: usize,
+    query: &'a [u8],
+    path: Span,
+    area: &'a [u8],
+    tree: Span,
+    path2: Span,
+    area2: &'a [u8],
+    tree2: Span,
 ) -> bool
-    requires { ⌜ Walk treeBytes (now q) p e 0 (now s) a b × Walk treeBytes (now q) p2 e2 0 (now s2) a2 b2 × (stepCount p2 e2 ≤ 1) ⌝ }
-    ensures { λ r. ⌜ EqualPaths (now (q .entry)) p e p2 e2 (now (s .entry)) a b (now (s2 .entry)) a2 b2 r ⌝ }
+    requires { ⌜ Walk treeBytes (now query) path 0 (now area) tree × Walk treeBytes (now query) path2 0 (now area2) tree2 × (stepCount (now query) path2 ≤ 1) ⌝ }
+    ensures { λ r. ⌜ EqualPaths (now (query .entry)) (now (area .entry)) (application path tree) (now (area2 .entry)) (application path2 tree2) r ⌝ }
 {
-    let found = piece(q, p2, e2, s2, a2, b2);
-    let Found::Part(f, t) = found else {
-        return !present(q, p, e, 0, s, a, b);
+    let found = piece(query, path2, area2, tree2);
+    let Found::Part(part) = found else {
+        return !present(query, path, 0, area, tree);
     };
-    let o = operand(q, s2, false, f, t);
-    path_is(q, p, e, s, a, b, o)
+    let array = operand(query, area2, false, part);
+    path_is(query, path, area, tree, array)
 }
 
 /// Whether two applications are equal, by walks of both trees.
 fn same_walks(
-    q: &[u8],
-    p: usize,
-    e: usize,
-    p2: usize,
-    e2: usize,
-    s: &[u8],
-    a: usize,
-    b: usize,
-    s2: &[u8],
-    a2: usize,
-    b2: usize,
+    query: &[u8],
+    path: Span,
+    area: &[u8],
+    tree: Span,
+    path2: Span,
+    area2: &[u8],
+    tree2: Span,
 ) -> bool
-    requires { ⌜ Walk treeBytes (now q) p e 0 (now s) a b × Walk treeBytes (now q) p2 e2 0 (now s2) a2 b2 ⌝ }
-    ensures { λ r. ⌜ EqualPaths (now (q .entry)) p e p2 e2 (now (s .entry)) a b (now (s2 .entry)) a2 b2 r ⌝ }
+    requires { ⌜ Walk treeBytes (now query) path 0 (now area) tree × Walk treeBytes (now query) path2 0 (now area2) tree2 ⌝ }
+    ensures { λ r. ⌜ EqualPaths (now (query .entry)) (now (area .entry)) (application path tree) (now (area2 .entry)) (application path2 tree2) r ⌝ }
 {
-    if !present(q, p, e, 0, s, a, b) {
-        return !present(q, p2, e2, 0, s2, a2, b2);
+    if !present(query, path, 0, area, tree) {
+        return !present(query, path2, 0, area2, tree2);
     }
-    if !present(q, p2, e2, 0, s2, a2, b2) {
+    if !present(query, path2, 0, area2, tree2) {
         return false;
     }
-    same_elements(q, p, e, p2, e2, s, a, b, s2, a2, b2)
+    same_elements(query, path, area, tree, path2, area2, tree2)
 }
 
-/// Whether two applications are equal, of which one or both are of longer paths.
-fn same_longer<'a>(
-    q: &'a [u8],
-    p: usize,
-    e: usize,
-    p2: usize,
-    e2: usize,
-    s: &'a [u8],
-    a: usize,
-    b: usize,
-    s2: &'a [u8],
-    a2: usize,
-    b2: usize,
-) -> bool
-    requires { ⌜ Walk treeBytes (now q) p e 0 (now s) a b × Walk treeBytes (now q) p2 e2 0 (now s2) a2 b2 ⌝ }
-    ensures { λ r. ⌜ EqualPaths (now (q .entry)) p e p2 e2 (now (s .entry)) a b (now (s2 .entry)) a2 b2 r ⌝ }
-{
-    if steps(p2, e2) <= 1 {
-        return same_as_piece(q, p, e, p2, e2, s, a, b, s2, a2, b2);
-    }
-    if steps(p, e) <= 1 {
-        return same_as_piece(q, p2, e2, p, e, s2, a2, b2, s, a, b);
-    }
-    same_walks(q, p, e, p2, e2, s, a, b, s2, a2, b2)
-}
-
-/// Whether two applications are equal: the path at p of the tree in s from a to b, and the path at p2 of the tree in
-/// s2 from a2 to b2. For two paths of one tree s2 is s.
+/// Whether two applications are equal: of `path` to the tree in `area`, and of `path2` to the tree in `area2`. For two
+/// paths of one tree the areas are the same.
 pub fn same_paths<'a>(
-    q: &'a [u8],
-    p: usize,
-    e: usize,
-    p2: usize,
-    e2: usize,
-    s: &'a [u8],
-    a: usize,
-    b: usize,
-    s2: &'a [u8],
-    a2: usize,
-    b2: usize,
+    query: &'a [u8],
+    path: Span,
+    area: &'a [u8],
+    tree: Span,
+    path2: Span,
+    area2: &'a [u8],
+    tree2: Span,
 ) -> bool
-    requires { ⌜ Walk treeBytes (now q) p e 0 (now s) a b × Walk treeBytes (now q) p2 e2 0 (now s2) a2 b2 ⌝ }
-    ensures { λ r. ⌜ EqualPaths (now (q .entry)) p e p2 e2 (now (s .entry)) a b (now (s2 .entry)) a2 b2 r ⌝ }
+    requires { ⌜ Walk treeBytes (now query) path 0 (now area) tree × Walk treeBytes (now query) path2 0 (now area2) tree2 ⌝ }
+    ensures { λ r. ⌜ EqualPaths (now (query .entry)) (now (area .entry)) (application path tree) (now (area2 .entry)) (application path2 tree2) r ⌝ }
 {
-    if steps(p2, e2) <= 1 {
-        if steps(p, e) <= 1 {
-            return same_pieces(q, p, e, p2, e2, s, a, b, s2, a2, b2);
+    if steps(query, path2) <= 1 {
+        return same_as_piece(query, path, area, tree, path2, area2, tree2);
+    }
+    if steps(query, path) <= 1 {
+        return same_as_piece(query, path2, area2, tree2, path, area, tree);
+    }
+    same_walks(query, path, area, tree, path2, area2, tree2)
+}
+
+/// As `same_paths`, for a lookup, which compares each tree with each joined tree: two paths of at most one label, as
+/// keys mostly are, are compared before anything else is made ready.
+pub fn same_keys<'a>(
+    query: &'a [u8],
+    path: Span,
+    area: &'a [u8],
+    tree: Span,
+    path2: Span,
+    area2: &'a [u8],
+    tree2: Span,
+) -> bool
+    requires { ⌜ Walk treeBytes (now query) path 0 (now area) tree × Walk treeBytes (now query) path2 0 (now area2) tree2 ⌝ }
+    ensures { λ r. ⌜ EqualPaths (now (query .entry)) (now (area .entry)) (application path tree) (now (area2 .entry)) (application path2 tree2) r ⌝ }
+{
+    if steps(query, path2) <= 1 {
+        if steps(query, path) <= 1 {
+            return same_pieces(query, path, area, tree, path2, area2, tree2);
         }
     }
-    same_longer(q, p, e, p2, e2, s, a, b, s2, a2, b2)
+    same_paths(query, path, area, tree, path2, area2, tree2)
+}
+
+/// Whether one path gives the same of two trees: so a group compares each tree with each.
+pub fn same_values<'a>(
+    query: &'a [u8],
+    path: Span,
+    area: &'a [u8],
+    tree: Span,
+    area2: &'a [u8],
+    tree2: Span,
+) -> bool
+    requires { ⌜ Walk treeBytes (now query) path 0 (now area) tree × Walk treeBytes (now query) path 0 (now area2) tree2 ⌝ }
+    ensures { λ r. ⌜ EqualPaths (now (query .entry)) (now (area .entry)) (application path tree) (now (area2 .entry)) (application path tree2) r ⌝ }
+{
+    if steps(query, path) <= 1 {
+        let first = piece(query, path, area, tree);
+        let second = piece(query, path, area2, tree2);
+        return same_found(area, first, area2, second);
+    }
+    same_paths(query, path, area, tree, path, area2, tree2)
 }

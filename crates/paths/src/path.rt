@@ -9,12 +9,14 @@ ghost use Prim.Native.Nat.{_+_, _-_, _≤_, _<_};
 ghost use lib.ListN.{length};
 ghost use lib.Seq.{slice};
 ghost use Rattle.spec_trees.specs.Bytes.{treeBytes};
-ghost use Rattle.format.specs.Stand.{treesBytes, Holds, FoundIs};
-ghost use Rattle.queries.specs.Steps.{stepCount};
+ghost use Rattle.format.specs.Stand.{treesBytes, FoundIs};
+ghost use Rattle.queries.specs.Places.{HoldsAt};
+ghost use Rattle.queries.specs.Steps.{stepCount, StepInside};
 ghost use Rattle.spec_stages.specs.Paths as paths;
 ghost use Rattle.paths.specs.Walk.{given, givenBytes, Walk, Tells, TellsOver, Under, ElementIs, ComparedIs, OperandIs};
 use areas::area::field_end;
 use areas::compare::same_bytes;
+use areas::span::Span;
 use format::labels::Found;
 use format::labels::find;
 use queries::path::step_at;
@@ -22,7 +24,7 @@ use queries::path::steps;
 
 /// Where a tree of an array stands; or that there are fewer, with what is left of its number when all are passed.
 pub enum Element {
-    Part(usize, usize),
+    Part(Span),
     Fewer(usize),
 }
 
@@ -32,42 +34,50 @@ pub enum Compared {
     Differs,
 }
 
-/// Where the trees stand that the tree from a to b holds under the label of step i of the path at p.
-pub fn under(q: &[u8], p: usize, i: usize, s: &[u8], a: usize, b: usize) -> Found
-    requires { ⌜ (p + i < length (now q)) × Holds treeBytes (now s) a b ⌝ }
-    ensures { λ r. ⌜ Under (now (q .entry)) p i (now (s .entry)) a b r ⌝ }
+/// Where the trees stand that step i of the path reaches: those that the tree holds under its label.
+pub fn under(query: &[u8], path: Span, i: usize, area: &[u8], tree: Span) -> Found
+    requires { ⌜ StepInside (now query) path i × HoldsAt treeBytes (now area) tree ⌝ }
+    ensures { λ r. ⌜ Under (now (query .entry)) path i (now (area .entry)) tree r ⌝ }
 {
-    let l = field_end(s, a + 3);
-    find(s, l, b, step_at(q, p, i))
+    let l = field_end(area, tree.from + 3);
+    find(
+        area,
+        Span {
+            from: l,
+            to: tree.to,
+        },
+        step_at(query, path, i),
+    )
 }
 
-/// Whether the path, from step i on, gives an array of the tree from a to b: whether it is not absent.
-pub fn present(q: &[u8], p: usize, e: usize, i: usize, s: &[u8], a: usize, b: usize) -> bool
-    requires { ⌜ Walk treeBytes (now q) p e i (now s) a b ⌝ }
-    ensures { λ r. ⌜ Tells (now (q .entry)) p e i (now (s .entry)) a b (λ x. r ≡ paths.present x) ⌝ }
+/// Whether the path, from step i on, gives an array of the tree: whether it is not absent.
+pub fn present(query: &[u8], path: Span, i: usize, area: &[u8], tree: Span) -> bool
+    requires { ⌜ Walk treeBytes (now query) path i (now area) tree ⌝ }
+    ensures { λ r. ⌜ Tells (now (query .entry)) path i (now (area .entry)) tree (λ x. r ≡ paths.present x) ⌝ }
 {
-    if i == steps(p, e) {
+    if i == steps(query, path) {
         return true;
     }
-    let found = under(q, p, i, s, a, b);
-    let Found::Part(f, t) = found else {
+    let found = under(query, path, i, area, tree);
+    let Found::Part(part) = found else {
         return false;
     };
-    present_over(q, p, e, i + 1, s, f, t)
+    present_over(query, path, i + 1, area, part)
 }
 
-/// The same over the array whose trees stand from a to b. Over an empty array the path is present.
-fn present_over(q: &[u8], p: usize, e: usize, i: usize, s: &[u8], a: usize, b: usize) -> bool
-    requires { ⌜ Walk treesBytes (now q) p e i (now s) a b ⌝ }
-    ensures { λ r. ⌜ TellsOver (now (q .entry)) p e i (now (s .entry)) a b (λ x. r ≡ paths.present x) ⌝ }
+/// The same over an array, by its trees. Over an empty array the path is present.
+fn present_over(query: &[u8], path: Span, i: usize, area: &[u8], trees: Span) -> bool
+    requires { ⌜ Walk treesBytes (now query) path i (now area) trees ⌝ }
+    ensures { λ r. ⌜ TellsOver (now (query .entry)) path i (now (area .entry)) trees (λ x. r ≡ paths.present x) ⌝ }
 {
-    if a == b {
+    let end = trees.to;
+    let mut at = trees.from;
+    if at == end {
         return true;
     }
-    let mut at = a;
-    while at != b {
-        let m = field_end(s, at);
-        if present(q, p, e, i, s, at, m) {
+    while at != end {
+        let m = field_end(area, at);
+        if present(query, path, i, area, Span { from: at, to: m }) {
             return true;
         }
         at = m;
@@ -75,82 +85,66 @@ fn present_over(q: &[u8], p: usize, e: usize, i: usize, s: &[u8], a: usize, b: u
     false
 }
 
-/// How many trees the path, from step i on, gives of the tree from a to b. Absent gives none.
-pub fn count(q: &[u8], p: usize, e: usize, i: usize, s: &[u8], a: usize, b: usize) -> usize
-    requires { ⌜ Walk treeBytes (now q) p e i (now s) a b ⌝ }
-    ensures { λ r. ⌜ (r ≤ b - a) × Tells (now (q .entry)) p e i (now (s .entry)) a b (λ x. r ≡ length (given x)) ⌝ }
+/// How many trees the path, from step i on, gives of the tree. Absent gives none.
+pub fn count(query: &[u8], path: Span, i: usize, area: &[u8], tree: Span) -> usize
+    requires { ⌜ Walk treeBytes (now query) path i (now area) tree ⌝ }
+    ensures { λ r. ⌜ (r ≤ tree .to - tree .from) × Tells (now (query .entry)) path i (now (area .entry)) tree (λ x. r ≡ length (given x)) ⌝ }
 {
-    if i == steps(p, e) {
+    if i == steps(query, path) {
         return 1;
     }
-    let found = under(q, p, i, s, a, b);
-    let Found::Part(f, t) = found else {
+    let found = under(query, path, i, area, tree);
+    let Found::Part(part) = found else {
         return 0;
     };
-    count_over(q, p, e, i + 1, s, f, t)
+    count_over(query, path, i + 1, area, part)
 }
 
-/// The same over the array whose trees stand from a to b.
-fn count_over(q: &[u8], p: usize, e: usize, i: usize, s: &[u8], a: usize, b: usize) -> usize
-    requires { ⌜ Walk treesBytes (now q) p e i (now s) a b ⌝ }
-    ensures { λ r. ⌜ (r ≤ b - a) × TellsOver (now (q .entry)) p e i (now (s .entry)) a b (λ x. r ≡ length (given x)) ⌝ }
+/// The same over an array, by its trees.
+fn count_over(query: &[u8], path: Span, i: usize, area: &[u8], trees: Span) -> usize
+    requires { ⌜ Walk treesBytes (now query) path i (now area) trees ⌝ }
+    ensures { λ r. ⌜ (r ≤ trees .to - trees .from) × TellsOver (now (query .entry)) path i (now (area .entry)) trees (λ x. r ≡ length (given x)) ⌝ }
 {
+    let end = trees.to;
     let mut n: usize = 0;
-    let mut at = a;
-    while at != b {
-        let m = field_end(s, at);
-        n = n + count(q, p, e, i, s, at, m);
+    let mut at = trees.from;
+    while at != end {
+        let m = field_end(area, at);
+        n = n + count(query, path, i, area, Span { from: at, to: m });
         at = m;
     }
     n
 }
 
-/// Where tree j stands, counted from 0, of those that the path, from step i on, gives of the tree from a to b.
-pub fn nth(
-    q: &[u8],
-    p: usize,
-    e: usize,
-    i: usize,
-    s: &[u8],
-    a: usize,
-    b: usize,
-    j: usize,
-) -> Element
-    requires { ⌜ Walk treeBytes (now q) p e i (now s) a b ⌝ }
-    ensures { λ r. ⌜ Tells (now (q .entry)) p e i (now (s .entry)) a b (λ x. ElementIs (now (s .entry)) a b j (given x) r) ⌝ }
+/// Where tree j stands, counted from 0, of those that the path, from step i on, gives of the tree.
+pub fn nth(query: &[u8], path: Span, i: usize, area: &[u8], tree: Span, j: usize) -> Element
+    requires { ⌜ Walk treeBytes (now query) path i (now area) tree ⌝ }
+    ensures { λ r. ⌜ Tells (now (query .entry)) path i (now (area .entry)) tree (λ x. ElementIs (now (area .entry)) tree j (given x) r) ⌝ }
 {
-    if i == steps(p, e) {
+    if i == steps(query, path) {
         if j == 0 {
-            return Element::Part(a, b);
+            return Element::Part(tree);
         }
         return Element::Fewer(j - 1);
     }
-    let found = under(q, p, i, s, a, b);
-    let Found::Part(f, t) = found else {
+    let found = under(query, path, i, area, tree);
+    let Found::Part(part) = found else {
         return Element::Fewer(j);
     };
-    nth_over(q, p, e, i + 1, s, f, t, j)
+    nth_over(query, path, i + 1, area, part, j)
 }
 
-/// The same over the array whose trees stand from a to b.
-fn nth_over(
-    q: &[u8],
-    p: usize,
-    e: usize,
-    i: usize,
-    s: &[u8],
-    a: usize,
-    b: usize,
-    j: usize,
-) -> Element
-    requires { ⌜ Walk treesBytes (now q) p e i (now s) a b ⌝ }
-    ensures { λ r. ⌜ TellsOver (now (q .entry)) p e i (now (s .entry)) a b (λ x. ElementIs (now (s .entry)) a b j (given x) r) ⌝ }
+/// The same over an array, by its trees.
+fn nth_over(query: &[u8], path: Span, i: usize, area: &[u8], trees: Span, j: usize) -> Element
+    requires { ⌜ Walk treesBytes (now query) path i (now area) trees ⌝ }
+    ensures { λ r. ⌜ TellsOver (now (query .entry)) path i (now (area .entry)) trees (λ x. ElementIs (now (area .entry)) trees j (given x) r) ⌝ }
 {
+    let end = trees.to;
     let mut left = j;
-    let mut at = a;
-    while at != b {
-        let m = field_end(s, at);
-        let r = nth(q, p, e, i, s, at, m, left);
+    let mut at = trees.from;
+    while at != end {
+        let m = field_end(area, at);
+        let r = nth(query, path, i, area, Span { from: at, to: m }, left);
         let Element::Fewer(n) = r else {
             return r;
         };
@@ -160,66 +154,65 @@ fn nth_over(
     Element::Fewer(left)
 }
 
-/// Whether the bytes of s from a to b stand in o from `at` on.
-fn stands_at(s: &[u8], a: usize, b: usize, o: &[u8], at: usize) -> Compared
-    requires { ⌜ (a ≤ b) × (b ≤ length (now s)) × (at ≤ length (now o)) ⌝ }
-    ensures { λ r. ⌜ ComparedIs (now (o .entry)) at (slice a b (now (s .entry))) r ⌝ }
+/// Whether the bytes of the part of `area` stand in `other` from `at` on.
+fn stands_at(area: &[u8], part: Span, other: &[u8], at: usize) -> Compared
+    requires { ⌜ (part .from ≤ part .to) × (part .to ≤ length (now area)) × (at ≤ length (now other)) ⌝ }
+    ensures { λ r. ⌜ ComparedIs (now (other .entry)) at (slice (part .from) (part .to) (now (area .entry))) r ⌝ }
 {
-    let n = b - a;
-    if o.len() - at < n {
+    let from = part.from;
+    let to = part.to;
+    let n = to - from;
+    if other.len() - at < n {
         return Compared::Differs;
     }
-    if same_bytes(&s[a..b], &o[at..at + n]) {
+    if same_bytes(&area[from..to], &other[at..at + n]) {
         return Compared::At(at + n);
     }
     Compared::Differs
 }
 
-/// Whether the bytes of the trees that the path, from step i on, gives of the tree from a to b stand in o from `at` on.
+/// Whether the bytes of the trees that the path, from step i on, gives of the tree stand in `other` from `at` on.
 pub fn matches_at(
-    q: &[u8],
-    p: usize,
-    e: usize,
+    query: &[u8],
+    path: Span,
     i: usize,
-    s: &[u8],
-    a: usize,
-    b: usize,
-    o: &[u8],
+    area: &[u8],
+    tree: Span,
+    other: &[u8],
     at: usize,
 ) -> Compared
-    requires { ⌜ Walk treeBytes (now q) p e i (now s) a b × (at ≤ length (now o)) ⌝ }
-    ensures { λ r. ⌜ Tells (now (q .entry)) p e i (now (s .entry)) a b (λ x. ComparedIs (now (o .entry)) at (givenBytes x) r) ⌝ }
+    requires { ⌜ Walk treeBytes (now query) path i (now area) tree × (at ≤ length (now other)) ⌝ }
+    ensures { λ r. ⌜ Tells (now (query .entry)) path i (now (area .entry)) tree (λ x. ComparedIs (now (other .entry)) at (givenBytes x) r) ⌝ }
 {
-    if i == steps(p, e) {
-        return stands_at(s, a, b, o, at);
+    if i == steps(query, path) {
+        return stands_at(area, tree, other, at);
     }
-    let found = under(q, p, i, s, a, b);
-    let Found::Part(f, t) = found else {
+    let found = under(query, path, i, area, tree);
+    let Found::Part(part) = found else {
         return Compared::At(at);
     };
-    matches_over(q, p, e, i + 1, s, f, t, o, at)
+    matches_over(query, path, i + 1, area, part, other, at)
 }
 
-/// The same over the array whose trees stand from a to b.
+/// The same over an array, by its trees.
 fn matches_over(
-    q: &[u8],
-    p: usize,
-    e: usize,
+    query: &[u8],
+    path: Span,
     i: usize,
-    s: &[u8],
-    a: usize,
-    b: usize,
-    o: &[u8],
+    area: &[u8],
+    trees: Span,
+    other: &[u8],
     at: usize,
 ) -> Compared
-    requires { ⌜ Walk treesBytes (now q) p e i (now s) a b × (at ≤ length (now o)) ⌝ }
-    ensures { λ r. ⌜ TellsOver (now (q .entry)) p e i (now (s .entry)) a b (λ x. ComparedIs (now (o .entry)) at (givenBytes x) r) ⌝ }
+    requires { ⌜ Walk treesBytes (now query) path i (now area) trees × (at ≤ length (now other)) ⌝ }
+    ensures { λ r. ⌜ TellsOver (now (query .entry)) path i (now (area .entry)) trees (λ x. ComparedIs (now (other .entry)) at (givenBytes x) r) ⌝ }
 {
+    let end = trees.to;
     let mut n = at;
-    let mut from = a;
-    while from != b {
-        let m = field_end(s, from);
-        let r = matches_at(q, p, e, i, s, from, m, o, n);
+    let mut from = trees.from;
+    while from != end {
+        let m = field_end(area, from);
+        let r = matches_at(query, path, i, area, Span { from, to: m }, other, n);
         let Compared::At(k) = r else {
             return Compared::Differs;
         };
@@ -229,25 +222,27 @@ fn matches_over(
     Compared::At(n)
 }
 
-/// Where what a path of at most one label gives of the tree from a to b stands, in one piece; or that it is absent.
-pub fn piece(q: &[u8], p: usize, e: usize, s: &[u8], a: usize, b: usize) -> Found
-    requires { ⌜ Walk treeBytes (now q) p e 0 (now s) a b × (stepCount p e ≤ 1) ⌝ }
-    ensures { λ r. ⌜ Tells (now (q .entry)) p e 0 (now (s .entry)) a b (λ x. FoundIs (now (s .entry)) a b x r) ⌝ }
+/// Where what a path of at most one label gives of the tree stands, in one piece; or that it is absent.
+pub fn piece(query: &[u8], path: Span, area: &[u8], tree: Span) -> Found
+    requires { ⌜ Walk treeBytes (now query) path 0 (now area) tree × (stepCount (now query) path ≤ 1) ⌝ }
+    ensures { λ r. ⌜ Tells (now (query .entry)) path 0 (now (area .entry)) tree (λ x. FoundIs (now (area .entry)) tree x r) ⌝ }
 {
-    if steps(p, e) == 0 {
-        return Found::Part(a, b);
+    if steps(query, path) == 0 {
+        return Found::Part(tree);
     }
-    under(q, p, 0, s, a, b)
+    under(query, path, 0, area, tree)
 }
 
-/// The array that stands in one piece from f to t: a literal's in the query, or what a path of at most one label
-/// gives, which is a part of the tree.
-pub fn operand<'a>(q: &'a [u8], s: &'a [u8], literal: bool, f: usize, t: usize) -> &'a [u8]
-    requires { ⌜ Holds treesBytes (cond literal (now q) (now s)) f t ⌝ }
-    ensures { λ r. ⌜ OperandIs (cond literal (now (q .entry)) (now (s .entry))) f t (now r) ⌝ }
+/// The array that stands there in one piece: a literal's in the query, or what a path of at most one label gives,
+/// which is a part of the tree.
+pub fn operand<'a>(query: &'a [u8], area: &'a [u8], literal: bool, trees: Span) -> &'a [u8]
+    requires { ⌜ HoldsAt treesBytes (cond literal (now query) (now area)) trees ⌝ }
+    ensures { λ r. ⌜ OperandIs (cond literal (now (query .entry)) (now (area .entry))) trees (now r) ⌝ }
 {
+    let from = trees.from;
+    let to = trees.to;
     if literal {
-        return &q[f..t];
+        return &query[from..to];
     }
-    &s[f..t]
+    &area[from..to]
 }

@@ -1,20 +1,17 @@
--- The heads that writers store before a content: what they promise, and the bytes of a label's entry, of a void tree
--- with one label, and of a place along a path.
-use mathlib.Core.Path.{_≡_}
+-- Places: the bytes of a void tree with one label, and of a place along a path; the room that its heads take; and what
+-- writers of such heads promise.
 use mathlib.Core.List.{List, [], _∷_}
-use Prim.Native.Nat.{ℕ, _+_, _*_, _≤_}
-use lib.ListN.{length}
+use Prim.Native.Nat.{ℕ, zero, suc, _+_}
 use Rattle.areas.specs.declared.area.Out.{Out}
-use Rattle.areas.specs.declared.area.Out.the-variants.{At}
-use Rattle.spec_trees.specs.Bytes.{fieldBytes}
-use Rattle.areas.specs.Area.{Is, Wrote}
+use Rattle.spec_trees.specs.Bytes.{fieldBytes, labelHeads}
+use Rattle.areas.specs.Area.{IsAt}
+use Rattle.areas.specs.declared.span.Span.{Span}
+use Rattle.format.specs.Stand.{entryOf, Headed}
 use Rattle.spec_queries.specs.Query.{Path}
+use Rattle.queries.specs.Places.{pathBytes}
+use Rattle.queries.specs.Steps.{stepAt}
 
 -- ---- bytes, from the bytes of an array's trees
--- the label k with that array
-abbrev pub entryOf : ℕ → List ℕ → List ℕ
-entryOf k c = fieldBytes (7, k ∷ fieldBytes (1, c))
-
 -- a void tree whose one label k holds that array
 unfoldable pub under : ℕ → List ℕ → List ℕ
 under k c = fieldBytes (2, 3 ∷ 0 ∷ 0 ∷ entryOf k c)
@@ -24,16 +21,19 @@ unfoldable pub placeBytes : Path → List ℕ → List ℕ
 placeBytes [] c = c
 placeBytes (k ∷ p) c = under k (placeBytes p c)
 
+-- ---- room
+-- the bytes that a place has before its array: at each step the heads of a tree and of its root, and those of the label
+unfoldable pub placeRoom : Path → ℕ
+placeRoom [] = 0
+placeRoom (k ∷ p) = 6 + labelHeads k + placeRoom p
+
+-- of the first i steps of the path that stands in q there
+unfoldable pub roomAt : List ℕ → Span → ℕ → ℕ
+roomAt q pathAt zero = 0
+roomAt q pathAt (suc i) = roomAt q pathAt i + (6 + labelHeads (stepAt q pathAt i))
+
 -- ---- heads
--- a content that was written from d on with the answer r ends in w
-abbrev pub Behind : List ℕ → ℕ → Out → Type 0
-Behind w d r = (e : ℕ) → r ≡ At e → (d ≤ e) × (e ≤ length w)
-
--- w became v: n bytes of heads were stored at d, so that whatever content c was written behind them, f of it is written
-pub record Headed (f : List ℕ → List ℕ) (n : ℕ) (w v : List ℕ) (d : ℕ) (r q : Out) : Type 0 where
-  pub same : q ≡ r
-  pub wrote : (u : List ℕ) (stop : ℕ) (c : List ℕ) → d + n ≤ length u → Wrote u w (d + n) stop c r → Wrote u v d stop (f c) q
-
--- what a writer of heads along the path that stands in q from p to e promises
-abbrev pub Placed : (w v q : List ℕ) (p e d : ℕ) → Out → Out → Type 0
-Placed w v q p e d r o = (path : Path) → Is q p e path → Headed (placeBytes path) (13 * length path) w v d r o
+-- what a writer of heads along the path that stands in q there promises
+abbrev pub Placed : (w v q : List ℕ) (targetAt : Span) (d : ℕ) → Out → Out → Type 0
+Placed w v q targetAt d r o = (path : Path) → IsAt q targetAt (pathBytes path)
+    → Headed (placeBytes path) (placeRoom path) w v d r o

@@ -9,67 +9,60 @@ use crate::place::wrap;
 use areas::area::Out;
 use areas::area::copy;
 use areas::area::field_end;
+use areas::span::Span;
 use format::labels::Found;
 use format::labels::find;
+use format::labels::heads;
 use queries::path::step_at;
 use queries::path::steps;
 
-/// Writes at d the keep, by the path from step i on, of the tree that stands from a to b.
-pub fn keep(
-    w: &mut [u8],
-    q: &[u8],
-    p: usize,
-    e: usize,
-    i: usize,
-    a: usize,
-    b: usize,
-    d: usize,
-    stop: usize,
-) -> Out
-    requires { ⌜ WriterReady treeBytes (now w) (now q) p e i a b d stop ⌝ }
-    ensures { λ r. ⌜ Keeps (now (w .entry)) (now (w .exit)) (now (q .entry)) p e i a b d stop r ⌝ }
+/// Writes into the room the keep of the tree, by the path from step i on.
+pub fn keep(work: &mut [u8], query: &[u8], path: Span, i: usize, tree: Span, room: Span) -> Out
+    requires { ⌜ WriterReady treeBytes (now work) (now query) path i tree room ⌝ }
+    ensures { λ r. ⌜ Keeps (now (work .entry)) (now (work .exit)) (now (query .entry)) path i tree room r ⌝ }
 {
-    if i == steps(p, e) {
-        return copy(w, a, b, d, stop);
+    if i == steps(query, path) {
+        return copy(work, tree, room);
     }
-    let k = step_at(q, p, i);
-    let l = field_end(w, a + 3);
-    let found = find(w, l, b, k);
-    let Found::Part(f, t) = found else {
-        return put_void(w, d, stop);
+    let label = step_at(query, path, i);
+    let labels = Span {
+        from: field_end(work, tree.from + 3),
+        to: tree.to,
     };
-    if stop - d < 13 {
+    let found = find(work, labels, label);
+    let Found::Part(array) = found else {
+        return put_void(work, room);
+    };
+    let n = 6 + heads(label);
+    if room.to - room.from < n {
         return Out::TooLarge;
     }
-    let inner = keep_each(w, q, p, e, i + 1, f, t, d + 13, stop);
-    wrap(w, d, k, inner)
+    let behind = Span {
+        from: room.from + n,
+        to: room.to,
+    };
+    let inner = keep_each(work, query, path, i + 1, array, behind);
+    wrap(work, room.from, label, inner)
 }
 
-/// Writes at d the keeps, by the path from step i on, of the trees that stand from a to b, one behind another.
-fn keep_each(
-    w: &mut [u8],
-    q: &[u8],
-    p: usize,
-    e: usize,
-    i: usize,
-    a: usize,
-    b: usize,
-    d: usize,
-    stop: usize,
-) -> Out
-    requires { ⌜ WriterReady treesBytes (now w) (now q) p e i a b d stop ⌝ }
-    ensures { λ r. ⌜ KeepsEach (now (w .entry)) (now (w .exit)) (now (q .entry)) p e i a b d stop r ⌝ }
+/// Writes into the room the keeps of the trees, by the path from step i on, one behind another.
+fn keep_each(work: &mut [u8], query: &[u8], path: Span, i: usize, trees: Span, room: Span) -> Out
+    requires { ⌜ WriterReady treesBytes (now work) (now query) path i trees room ⌝ }
+    ensures { λ r. ⌜ KeepsEach (now (work .entry)) (now (work .exit)) (now (query .entry)) path i trees room r ⌝ }
 {
-    let mut x = a;
-    let mut at = d;
-    while x != b {
-        let m = field_end(w, x);
-        let one = keep(w, q, p, e, i, x, m, at, stop);
-        let Out::At(n) = one else {
+    let end = trees.to;
+    let stop = room.to;
+    let mut from = trees.from;
+    let mut at = room.from;
+    while from != end {
+        let m = field_end(work, from);
+        let left = Span { from: at, to: stop };
+        let one = keep(work, query, path, i, Span { from: from, to: m }, left);
+        let Out::At(e) = one else {
             return Out::TooLarge;
         };
-        x = m;
-        at = n;
+        from = m;
+        at = e;
     }
     Out::At(at)
 }

@@ -5,92 +5,86 @@ ghost use Rattle.queries.specs.Places.{itemBytes};
 ghost use Rattle.project.specs.Project.{PlaceReady, WritesPlace, ItemReady, WritesItem, Building, AddsItem, ProjectReady, Projects};
 use areas::area::Out;
 use areas::area::field_end;
+use areas::span::Span;
 use build::part::add_written;
 use build::part::begin;
 use build::part::place_value;
 use data::data::write_data;
 use format::limits::Limits;
 use place::keep::keep;
+use place::place::heads_room;
 use queries::item::ItemAt;
 use queries::item::item_at;
-use queries::path::steps;
 
-/// Writes at d the place, along the path from f to t, of what the data from c to ce give of the tree from a to b.
+/// Writes the place, along the path `target`, of what the data give of the tree.
 fn write_place(
-    w: &mut [u8],
-    q: &[u8],
-    c: usize,
-    ce: usize,
-    f: usize,
-    t: usize,
-    a: usize,
-    b: usize,
-    d: usize,
-    stop: usize,
+    work: &mut [u8],
+    query: &[u8],
+    datum: Span,
+    target: Span,
+    tree: Span,
+    room: Span,
 ) -> Out
-    requires { ⌜ PlaceReady (now w) (now q) c ce f t a b d stop ⌝ }
-    ensures { λ r. ⌜ WritesPlace (now (w .entry)) (now (w .exit)) (now (q .entry)) c ce f t a b d stop r ⌝ }
+    requires { ⌜ PlaceReady (now work) (now query) datum target tree room ⌝ }
+    ensures { λ r. ⌜ WritesPlace (now (work .entry)) (now (work .exit)) (now (query .entry)) datum target tree room r ⌝ }
 {
-    let n = 13 * steps(f, t);
-    let r = write_data(w, q, c, ce, a, b, d + n, stop, Limits::NEST);
-    place_value(w, q, f, t, d, stop, r)
+    let n = heads_room(query, target);
+    let inner = Span {
+        from: room.from + n,
+        to: room.to,
+    };
+    let r = write_data(work, query, datum, tree, inner, Limits::NEST);
+    place_value(work, query, target, room, r)
 }
 
-/// Writes at d what the item from p to e makes of the tree from a to b.
-fn write_item(
-    w: &mut [u8],
-    q: &[u8],
-    p: usize,
-    e: usize,
-    a: usize,
-    b: usize,
-    d: usize,
-    stop: usize,
-) -> Out
-    requires { ⌜ ItemReady (now w) (now q) p e a b d stop ⌝ }
-    ensures { λ r. ⌜ WritesItem (now (w .entry)) (now (w .exit)) (now (q .entry)) p e a b d stop r ⌝ }
+/// Writes what the item makes of the tree.
+fn write_item(work: &mut [u8], query: &[u8], item: Span, tree: Span, room: Span) -> Out
+    requires { ⌜ ItemReady (now work) (now query) item tree room ⌝ }
+    ensures { λ r. ⌜ WritesItem (now (work .entry)) (now (work .exit)) (now (query .entry)) item tree room r ⌝ }
 {
-    let x = item_at(q, p, e);
+    let x = item_at(query, item);
     match x {
-        ItemAt::Keep(f, t) => keep(w, q, f, t, 0, a, b, d, stop),
-        ItemAt::Place(c, ce, f, t) => write_place(w, q, c, ce, f, t, a, b, d, stop),
+        ItemAt::Keep(path) => keep(work, query, path, 0, tree, room),
+        ItemAt::Place(datum, target) => write_place(work, query, datum, target, tree, room),
     }
 }
 
-/// Adds what the item from p to e makes of the tree from a to b to the tree from s to se.
-fn add_item(
-    w: &mut [u8],
-    q: &[u8],
-    p: usize,
-    e: usize,
-    a: usize,
-    b: usize,
-    s: usize,
-    se: usize,
-) -> Out
-    requires { ⌜ Building OkI itemBytes (now w) (now q) p e a b s se ⌝ }
-    ensures { λ r. ⌜ AddsItem (now (w .entry)) (now (w .exit)) (now (q .entry)) p e a b s se r ⌝ }
+/// Adds what the item makes of the tree to the tree so far.
+fn add_item(work: &mut [u8], query: &[u8], item: Span, tree: Span, built: Span) -> Out
+    requires { ⌜ Building OkI itemBytes (now work) (now query) item tree built ⌝ }
+    ensures { λ r. ⌜ AddsItem (now (work .entry)) (now (work .exit)) (now (query .entry)) item tree built r ⌝ }
 {
-    let i = s + Limits::TREE;
-    let r = write_item(w, q, p, e, a, b, i, i + Limits::TREE);
-    add_written(w, s, se, r)
+    let from = built.from + Limits::TREE;
+    let room = Span {
+        from,
+        to: from + Limits::TREE,
+    };
+    let r = write_item(work, query, item, tree, room);
+    add_written(work, built, r)
 }
 
-/// Makes at s what the items from c to ce make of the tree from a to b, which stands below s.
-pub fn project(w: &mut [u8], q: &[u8], c: usize, ce: usize, a: usize, b: usize, s: usize) -> Out
-    requires { ⌜ ProjectReady (now w) (now q) c ce a b s ⌝ }
-    ensures { λ r. ⌜ Projects (now (w .entry)) (now (w .exit)) (now (q .entry)) c ce a b s r ⌝ }
+/// Makes at `at` what the items make of the tree, which stands below.
+pub fn project(work: &mut [u8], query: &[u8], items: Span, tree: Span, at: usize) -> Out
+    requires { ⌜ ProjectReady (now work) (now query) items tree at ⌝ }
+    ensures { λ r. ⌜ Projects (now (work .entry)) (now (work .exit)) (now (query .entry)) items tree at r ⌝ }
 {
-    let mut se = begin(w, s);
-    let mut at = c;
-    while at != ce {
-        let m = field_end(q, at);
-        let one = add_item(w, q, at, m, a, b, s, se);
+    let end = items.to;
+    let mut to = begin(work, at);
+    let mut from = items.from;
+    while from != end {
+        let m = field_end(query, from);
+        let one = add_item(
+            work,
+            query,
+            Span { from, to: m },
+            tree,
+            Span { from: at, to },
+        );
         let Out::At(e) = one else {
             return Out::TooLarge;
         };
-        se = e;
-        at = m;
+        to = e;
+        from = m;
     }
-    Out::At(se)
+    Out::At(to)
 }

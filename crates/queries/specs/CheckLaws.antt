@@ -1,7 +1,7 @@
 -- The steps of the check, in the terms in which the code meets them, and what an accepted query is.
 use mathlib.Core.Path.{_≡_, refl, sym, ap, _∙_}
 use mathlib.Core.List.{List, [], _∷_}
-use mathlib.Core.Bool.{Bool, true, false, cond, _&&_}
+use mathlib.Core.Bool.{Bool, true, false, cond, _&&_, _||_, or-true, or-false}
 use mathlib.Core.Option.{Option, none, some, Option·map}
 use Prim.Native.Nat.{ℕ, zero, suc, _+_, _-_, _*_, _≤_, _<_}
 use native.Mathlib.Numerals.{add-one}
@@ -10,7 +10,7 @@ use native.Mathlib.Omega.{arith}
 use lib.ListN.{length, getD}
 use lib.Seq.{slice, slice-cons, slice-empty, length-slice, take-length}
 use lib.Dec.{eqb, leb, ltb}
-use borrow.Author.Tests.{ne-eqb, le-leb, lt-leb, lt-ltb, le-ltb}
+use borrow.Author.Tests.{eq-eqb, ne-eqb, le-leb, lt-leb, lt-ltb, le-ltb}
 use Rattle.spec_trees.specs.Options.{only, maybe, some?}
 use Rattle.spec_trees.specs.Lists.{all}
 use Rattle.spec_trees.specs.Limits.{queryMax, pathMax, depthMax, divisorMax}
@@ -31,26 +31,39 @@ use Rattle.spec_queries.specs.Bytes.{queryBytes}
 use Rattle.spec_queries.specs.Decode.{pathR, divisorR, queryR, decodeQuery, readQuery}
 use Rattle.spec_queries.specs.Rules.{OkQ}
 use Rattle.spec_queries.specs.QueryLaws.{query-back, query-only}
-use Rattle.queries.specs.Steps.{stepCount, stepAt}
+use Rattle.queries.specs.Steps.{countIn, stepIn}
 use Rattle.queries.specs.declared.table.Child.{Child}
 use Rattle.queries.specs.declared.table.Rule.{Rule}
-use Rattle.queries.specs.Table.{allowed, kindAt, childAt}
+use Rattle.queries.specs.Table.{mayBe, allowed, kindAt, childAt}
 use Rattle.queries.specs.Accept.{fieldOk, childOk, childrenOk, contentOk}
 use Rattle.queries.specs.ShapeLaws.{some-only}
 
 -- ---- the table
-module _ (ch : Child) (t n : ℕ) where
-  pub allowed-below : t < ch .0 → allowed ch t n ≡ false
-  unfolding allowed
-  allowed-below l = rw (lt-leb (ch .0) t l) refl
+module _ (ch : Child) (t : ℕ) where
+  pub may-second : t ≡ ch .2 → mayBe ch t ≡ true
+  unfolding mayBe
+  may-second e = rw (eq-eqb t (ch .2) e) (or-true (leb (ch .0) t && leb t (ch .1)))
 
-  pub allowed-above : ch .0 ≤ t → ch .1 < t → allowed ch t n ≡ false
-  unfolding allowed
-  allowed-above a l = rw (le-leb (ch .0) t a, lt-leb t (ch .1) l) refl
+  pub may-third : t ≡ ch .3 → mayBe ch t ≡ true
+  unfolding mayBe
+  may-third e = rw (eq-eqb t (ch .3) e, or-true (eqb t (ch .2))) (or-true (leb (ch .0) t && leb t (ch .1)))
 
-  pub allowed-within : ch .0 ≤ t → t ≤ ch .1 → allowed ch t n ≡ leb (ch .2) n
+  module _ (s : t ≡ ch .2 → ⊥) (h : t ≡ ch .3 → ⊥) where
+    pub may-below : t < ch .0 → mayBe ch t ≡ false
+    unfolding mayBe
+    may-below l = rw (ne-eqb t (ch .2) s, ne-eqb t (ch .3) h, lt-leb (ch .0) t l) refl
+
+    pub may-range : ch .0 ≤ t → mayBe ch t ≡ leb t (ch .1)
+    unfolding mayBe
+    may-range l = rw (ne-eqb t (ch .2) s, ne-eqb t (ch .3) h, le-leb (ch .0) t l) (or-false (leb t (ch .1)))
+
+  pub allowed-tag : (n : ℕ) → mayBe ch t ≡ true → allowed ch t n ≡ leb (ch .4) n
   unfolding allowed
-  allowed-within a b = rw (le-leb (ch .0) t a, le-leb t (ch .1) b) refl
+  allowed-tag n e = rw e refl
+
+  pub allowed-other : (n : ℕ) → mayBe ch t ≡ false → allowed ch t n ≡ false
+  unfolding allowed
+  allowed-other n e = rw e refl
 
 module _ (r : Rule) where
   pub child-first : (n : ℕ) → n ≡ 0 → childAt r n ≡ kindAt (r .0)
@@ -81,8 +94,7 @@ short-path : (p : List ℕ) → length p ≤ pathMax → isPath p ≡ all isLabe
 unfolding isPath
 short-path p l = rw (le-leb (length p) pathMax l) refl
 
-pub steps-number : (from to : ℕ) → stepCount from to ≡ to - from
-unfolding stepCount
+pub steps-number : (from to : ℕ) → countIn from to ≡ to - from
 steps-number from to = refl
 
 pub path-start : (s : List ℕ) (from to : ℕ) → all isLabel (slice (from + 0) to s) ≡ all isLabel (slice from to s)
@@ -96,17 +108,16 @@ module _ (s : List ℕ) (from to : ℕ) (within : to ≤ length s) where
   path-short l = short-path (slice from to s) (omega (arith, length-slice from to s within))
 
   module _ (i : ℕ) (more : from + i < to) where
-    step : slice (from + i) to s ≡ stepAt s from i ∷ slice (from + (i + 1)) to s
-    unfolding stepAt
+    step : slice (from + i) to s ≡ stepIn s from i ∷ slice (from + (i + 1)) to s
     step =
         let q : suc (from + i) ≡ from + (i + 1) = omega arith in
         slice-cons (from + i) to s 0 more within ∙ ap (λ k. getD s (from + i) 0 ∷ slice k to s) q
 
-    pub path-next : isLabel (stepAt s from i) ≡ true → all isLabel (slice (from + i) to s) ≡ all isLabel (slice (from + (i + 1)) to s)
+    pub path-next : isLabel (stepIn s from i) ≡ true → all isLabel (slice (from + i) to s) ≡ all isLabel (slice (from + (i + 1)) to s)
     unfolding all
     path-next e = ap (all isLabel) step ∙ rw e refl
 
-    pub path-bad : isLabel (stepAt s from i) ≡ false → all isLabel (slice (from + i) to s) ≡ false
+    pub path-bad : isLabel (stepIn s from i) ≡ false → all isLabel (slice (from + i) to s) ≡ false
     unfolding all
     path-bad e = ap (all isLabel) step ∙ rw e refl
 

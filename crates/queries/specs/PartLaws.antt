@@ -6,7 +6,7 @@ use Prim.Native.Nat.{ℕ, _+_, _≤_}
 use native.Mathlib.Omega.{arith}
 use lib.ListN.{length}
 use Rattle.spec_trees.specs.Bytes.{Field, fieldBytes, bytes}
-use Rattle.areas.specs.Area.{Is, fieldEnd}
+use Rattle.areas.specs.Area.{Is, fieldEnd, span}
 use Rattle.areas.specs.AreaLaws.{is-left, is-right, is-content, is-field-end, length-field}
 use Rattle.spec_trees.specs.FieldLaws.{bytes-one, length-bytes}
 use Rattle.format.specs.Stand.{Holds}
@@ -106,20 +106,20 @@ pub first-held : {q : List ℕ} {m : ℕ} (p : ℕ) (f : Field) → Is q (p + 3)
 first-held {q} {m} p f z = let y : p + 3 + 3 ≡ p + 6 = omega arith in subst (λ n. Is q n m (f .1)) y (is-content f z)
 
 module _ {X A : Type 0} {q : List ℕ} {p e : ℕ} (k : A → X) (f : A → Field) (t : ℕ) (a : A) (z : Is q p e (fieldBytes (t, bytes (f a ∷ [])))) where
-  pub one-whole : OnePart k (whole f) q p e (k a) (p + 3) e
+  pub one-whole : OnePart k (whole f) q (span p e) (k a) (span (p + 3) e)
   one-whole = let i = one-inside t (f a) z in record { part = a; same = refl; part-is = i .first-is; after = omega arith; within = omega arith }
 
-  pub one-held : OnePart k (held f) q p e (k a) (p + 6) e
+  pub one-held : OnePart k (held f) q (span p e) (k a) (span (p + 6) e)
   one-held = let i = one-inside t (f a) z in record { part = a; same = refl; part-is = first-held p (f a) (i .first-is); after = omega arith; within = omega arith }
 
 module _ {X A B : Type 0} {q : List ℕ} {p m e : ℕ} (k : A → B → X) (f : A → Field) (g : B → Field) (t : ℕ) (a : A) (b : B)
     (y : m ≡ fieldEnd q (p + 3)) (z : Is q p e (fieldBytes (t, bytes (f a ∷ g b ∷ [])))) where
-  pub two-whole : TwoParts k (whole f) (whole g) q p e (k a b) (p + 3) m m e
+  pub two-whole : TwoParts k (whole f) (whole g) q (span p e) (k a b) (span (p + 3) m) (span m e)
   two-whole =
       let i = two-inside t (f a) (g b) y z in
       record { first = a; second = b; same = refl; first-is = i .first-is; second-is = i .second-is; after = omega arith; between = omega arith; within = omega arith }
 
-  pub two-held : TwoParts k (held f) (held g) q p e (k a b) (p + 6) m (m + 3) e
+  pub two-held : TwoParts k (held f) (held g) q (span p e) (k a b) (span (p + 6) m) (span (m + 3) e)
   two-held =
       let i = two-inside t (f a) (g b) y z in
       record {
@@ -134,7 +134,7 @@ module _ {X A B : Type 0} {q : List ℕ} {p m e : ℕ} (k : A → B → X) (f : 
       }
 
   -- the first by its whole field, the second by what it holds
-  pub two-mixed : TwoParts k (whole f) (held g) q p e (k a b) (p + 3) m (m + 3) e
+  pub two-mixed : TwoParts k (whole f) (held g) q (span p e) (k a b) (span (p + 3) m) (span (m + 3) e)
   two-mixed =
       let i = two-inside t (f a) (g b) y z in
       record {
@@ -150,7 +150,7 @@ module _ {X A B : Type 0} {q : List ℕ} {p m e : ℕ} (k : A → B → X) (f : 
 
 module _ {X A B C : Type 0} {q : List ℕ} {p m n e : ℕ} (k : A → B → C → X) (f : A → Field) (g : B → Field) (h : C → Field) (t : ℕ) (a : A) (b : B) (c : C)
     (x : m ≡ fieldEnd q (p + 3)) (y : n ≡ fieldEnd q m) (z : Is q p e (fieldBytes (t, bytes (f a ∷ g b ∷ h c ∷ [])))) where
-  pub three-whole : ThreeParts k (whole f) (whole g) (whole h) q p e (k a b c) (p + 3) m m n n e
+  pub three-whole : ThreeParts k (whole f) (whole g) (whole h) q (span p e) (k a b c) (span (p + 3) m) (span m n) (span n e)
   three-whole =
       let i = three-inside t (f a) (g b) (h c) x y z in
       record {
@@ -161,23 +161,6 @@ module _ {X A B C : Type 0} {q : List ℕ} {p m n e : ℕ} (k : A → B → C �
         first-is = i .first-is;
         second-is = i .second-is;
         third-is = i .third-is;
-        after = omega arith;
-        between = omega arith;
-        between-2 = omega arith;
-        within = omega arith;
-      }
-
-  pub three-held : ThreeParts k (held f) (held g) (held h) q p e (k a b c) (p + 6) m (m + 3) n (n + 3) e
-  three-held =
-      let i = three-inside t (f a) (g b) (h c) x y z in
-      record {
-        first = a;
-        second = b;
-        third = c;
-        same = refl;
-        first-is = first-held p (f a) (i .first-is);
-        second-is = is-content (g b) (i .second-is);
-        third-is = is-content (h c) (i .third-is);
         after = omega arith;
         between = omega arith;
         between-2 = omega arith;

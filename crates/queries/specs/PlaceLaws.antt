@@ -11,21 +11,23 @@ use borrow.Author.Tests.{ne-eqb}
 use Rattle.spec_trees.specs.Limits.{divisorMax}
 use Rattle.spec_trees.specs.Lists.{All}
 use Rattle.spec_trees.specs.Bytes.{fieldBytes, bytes, low, big, arrayF}
-use Rattle.areas.specs.Area.{Is, fieldEnd}
+use Rattle.areas.specs.Area.{Is, fieldEnd, span}
+use Rattle.areas.specs.declared.span.Span.{Span}
 use Rattle.areas.specs.AreaLaws.{is-head, is-tail, is-tag, is-content}
 use Rattle.spec_trees.specs.OptionLaws.{T-and}
 use Rattle.format.specs.Stand.{Holds}
-use Rattle.spec_queries.specs.Query.{Path, Criterion, always, exists, equal, same, negated, both, either, Data, literal, path, listed, test, choice, reduced, Datas, Item, keep, place, Pair, Stage, match, unwind, project, group, lookup, isDivisor}
-use Rattle.spec_queries.specs.Bytes.{pathF, criterionF, divisorF, dataF, dataFs, itemF, pairF, pairsF, stageF, queryF, queryBytes}
+use Rattle.spec_queries.specs.Query.{Route, Criterion, always, exists, equal, same, negated, both, either, Data, literal, path, listed, test, choice, reduced, Datas, Item, keep, place, Pair, Stage, match, unwind, project, group, lookup, isDivisor}
+use Rattle.spec_queries.specs.Bytes.{pathF, routeF, criterionF, divisorF, dataF, dataFs, itemF, pairF, pairsF, stageF, queryF, queryBytes}
 use Rattle.spec_queries.specs.Decode.{pairOf}
 use Rattle.spec_queries.specs.Rules.{OkD, OkS, OkQ}
-use Rattle.queries.specs.Places.{TagNot, pathBytes, arrayTrees, criterionBytes, dataBytes, datasBytes, itemBytes, itemsBytes, pairBytes, pairsBytes, stageBytes, stagesBytes, HoldsOk, OnePart, TwoParts, ThreeParts, CriterionIs, ReadsCriterion, divisorAt, ReducedIs, DataIs, ReadsData, ItemIs, ReadsItem, StageIs, ReadsStage, ReadsQuery}
-use Rattle.queries.specs.PartLaws.{two-inside, three-inside, first-held, one-whole, one-held, two-whole, two-held, two-mixed, three-whole, three-held}
+use Rattle.queries.specs.Places.{TagNot, pathBytes, routeBytes, arrayTrees, criterionBytes, dataBytes, datasBytes, itemBytes, itemsBytes, pairBytes, pairsBytes, stageBytes, stagesBytes, HoldsOk, OnePart, TwoParts, ThreeParts, CriterionIs, ReadsCriterion, divisorAt, ReducedIs, DataIs, ReadsData, ItemIs, ReadsItem, GroupIs, LookupIs, StageIs, ReadsStage, ReadsQuery}
+use Rattle.queries.specs.PartLaws.{two-inside, three-inside, one-whole, one-held, two-whole, two-held, two-mixed, three-whole}
 use Rattle.queries.specs.declared.criterion.CriterionAt.{CriterionAt}
 use Rattle.queries.specs.declared.data.DataAt.{DataAt}
 use Rattle.queries.specs.declared.item.ItemAt.{ItemAt}
+use Rattle.queries.specs.declared.stage.GroupAt.{GroupAt}
+use Rattle.queries.specs.declared.stage.LookupAt.{LookupAt}
 use Rattle.queries.specs.declared.stage.StageAt.{StageAt}
-use Rattle.queries.specs.declared.stage.Span.{Span}
 
 -- Below, m is where the first field inside ends, and n where the second does.
 
@@ -35,67 +37,67 @@ use Rattle.queries.specs.declared.stage.Span.{Span}
 abbrev pub criterionTagged : (p m e tag : ℕ) → CriterionAt
 criterionTagged p m e tag =
     cond (eqb tag 33) CriterionAt.Always
-    (cond (eqb tag 34) (CriterionAt.Exists (p + 6) e)
-    (cond (eqb tag 37) (CriterionAt.Negated (p + 3) e)
-    (cond (eqb tag 35) (CriterionAt.Equal (p + 6) m (m + 3) e)
-    (cond (eqb tag 36) (CriterionAt.Same (p + 6) m (m + 3) e)
-    (cond (eqb tag 38) (CriterionAt.Both (p + 3) m m e)
-    (CriterionAt.Either (p + 3) m m e))))))
+    (cond (eqb tag 34) (CriterionAt.Exists (span (p + 3) e))
+    (cond (eqb tag 37) (CriterionAt.Negated (span (p + 3) e))
+    (cond (eqb tag 35) (CriterionAt.Equal (span (p + 3) m) (span (m + 3) e))
+    (cond (eqb tag 36) (CriterionAt.Same (span (p + 3) m) (span m e))
+    (cond (eqb tag 38) (CriterionAt.Both (span (p + 3) m) (span m e))
+    (CriterionAt.Either (span (p + 3) m) (span m e)))))))
 
 -- what an answer says, by cases
-abbrev CriterionCase : (q : List ℕ) (p e : ℕ) → Criterion → CriterionAt → Type 0
-CriterionCase q p e x CriterionAt.Always = x ≡ always
-CriterionCase q p e x (CriterionAt.Exists f t) = OnePart exists pathBytes q p e x f t
-CriterionCase q p e x (CriterionAt.Equal f t g u) = TwoParts equal pathBytes arrayTrees q p e x f t g u
-CriterionCase q p e x (CriterionAt.Same f t g u) = TwoParts same pathBytes pathBytes q p e x f t g u
-CriterionCase q p e x (CriterionAt.Negated f t) = OnePart negated criterionBytes q p e x f t
-CriterionCase q p e x (CriterionAt.Both f t g u) = TwoParts both criterionBytes criterionBytes q p e x f t g u
-CriterionCase q p e x (CriterionAt.Either f t g u) = TwoParts either criterionBytes criterionBytes q p e x f t g u
+abbrev CriterionCase : (q : List ℕ) (at : Span) → Criterion → CriterionAt → Type 0
+CriterionCase q at x CriterionAt.Always = x ≡ always
+CriterionCase q at x (CriterionAt.Exists f) = OnePart exists routeBytes q at x f
+CriterionCase q at x (CriterionAt.Equal f g) = TwoParts equal routeBytes arrayTrees q at x f g
+CriterionCase q at x (CriterionAt.Same f g) = TwoParts same routeBytes routeBytes q at x f g
+CriterionCase q at x (CriterionAt.Negated f) = OnePart negated criterionBytes q at x f
+CriterionCase q at x (CriterionAt.Both f g) = TwoParts both criterionBytes criterionBytes q at x f g
+CriterionCase q at x (CriterionAt.Either f g) = TwoParts either criterionBytes criterionBytes q at x f g
 
-criterion-is : {q : List ℕ} {p e : ℕ} {x : Criterion} {r : CriterionAt} → CriterionCase q p e x r → CriterionIs q p e x r
+criterion-is : {q : List ℕ} {p e : ℕ} {x : Criterion} {r : CriterionAt} → CriterionCase q (span p e) x r → CriterionIs q (span p e) x r
 criterion-is {q} {p} {e} {x} h = record {
-  always-is = λ z. subst (CriterionCase q p e x) z h;
-  exists-is = λ f t z. subst (CriterionCase q p e x) z h;
-  equal-is = λ f t g u z. subst (CriterionCase q p e x) z h;
-  same-is = λ f t g u z. subst (CriterionCase q p e x) z h;
-  negated-is = λ f t z. subst (CriterionCase q p e x) z h;
-  both-is = λ f t g u z. subst (CriterionCase q p e x) z h;
-  either-is = λ f t g u z. subst (CriterionCase q p e x) z h;
+  always-is = λ z. subst (CriterionCase q (span p e) x) z h;
+  exists-is = λ f z. subst (CriterionCase q (span p e) x) z h;
+  equal-is = λ f g z. subst (CriterionCase q (span p e) x) z h;
+  same-is = λ f g z. subst (CriterionCase q (span p e) x) z h;
+  negated-is = λ f z. subst (CriterionCase q (span p e) x) z h;
+  both-is = λ f g z. subst (CriterionCase q (span p e) x) z h;
+  either-is = λ f g z. subst (CriterionCase q (span p e) x) z h;
 }
 
 criterion-case : {q : List ℕ} {p m e : ℕ} → m ≡ fieldEnd q (p + 3) → (x : Criterion) → Is q p e (criterionBytes x)
-    → CriterionCase q p e x (criterionTagged p m e (criterionF x .0))
+    → CriterionCase q (span p e) x (criterionTagged p m e (criterionF x .0))
 unfolding criterionF pathF arrayF
 criterion-case y always h = refl
-criterion-case y (exists s) h = one-held exists pathF 34 s h
-criterion-case y (equal s a) h = two-held equal pathF arrayF 35 s a y h
-criterion-case y (same s s′) h = two-held same pathF pathF 36 s s′ y h
+criterion-case y (exists s) h = one-whole exists routeF 34 s h
+criterion-case y (equal s a) h = two-mixed equal routeF arrayF 35 s a y h
+criterion-case y (same s s′) h = two-whole same routeF routeF 36 s s′ y h
 criterion-case y (negated c) h = one-whole negated criterionF 37 c h
 criterion-case y (both c d) h = two-whole both criterionF criterionF 38 c d y h
 criterion-case y (either c d) h = two-whole either criterionF criterionF 39 c d y h
 
 -- right, wherever the tag stands
-pub criterion-reads : (q : List ℕ) (p e : ℕ) {m tag : ℕ} → m ≡ fieldEnd q (p + 3) → getD q p 0 ≡ tag → ReadsCriterion q p e (criterionTagged p m e tag)
+pub criterion-reads : (q : List ℕ) (p e : ℕ) {m tag : ℕ} → m ≡ fieldEnd q (p + 3) → getD q p 0 ≡ tag → ReadsCriterion q (span p e) (criterionTagged p m e tag)
 criterion-reads q p e {m} y z x h =
-    criterion-is (subst (λ t. CriterionCase q p e x (criterionTagged p m e t)) (sym (is-tag (criterionF x) h) ∙ z) (criterion-case y x h))
+    criterion-is (subst (λ t. CriterionCase q (span p e) x (criterionTagged p m e t)) (sym (is-tag (criterionF x) h) ∙ z) (criterion-case y x h))
 
 -- the last of them
 pub criterion-reads-either : (q : List ℕ) (p e : ℕ) {m : ℕ} → m ≡ fieldEnd q (p + 3) → TagNot q p 33 → TagNot q p 34 → TagNot q p 37
-    → TagNot q p 35 → TagNot q p 36 → TagNot q p 38 → ReadsCriterion q p e (CriterionAt.Either (p + 3) m m e)
+    → TagNot q p 35 → TagNot q p 36 → TagNot q p 38 → ReadsCriterion q (span p e) (CriterionAt.Either (span (p + 3) m) (span m e))
 criterion-reads-either q p e {m} y a b c d f g =
     let t : ℕ = getD q p 0 in
-    let z : criterionTagged p m e t ≡ CriterionAt.Either (p + 3) m m e
+    let z : criterionTagged p m e t ≡ CriterionAt.Either (span (p + 3) m) (span m e)
     = rw (ne-eqb t 33 a, ne-eqb t 34 b, ne-eqb t 37 c, ne-eqb t 35 d, ne-eqb t 36 f, ne-eqb t 38 g) refl in
-    subst (ReadsCriterion q p e) z (criterion-reads q p e y refl)
+    subst (ReadsCriterion q (span p e)) z (criterion-reads q p e y refl)
 
 -- two parts have their heads
 criterion-two : {q : List ℕ} {p m e : ℕ} (x : Criterion) → m ≡ fieldEnd q (p + 3) → TagNot q p 33 → TagNot q p 34 → TagNot q p 37
     → Is q p e (criterionBytes x) → (p + 6 ≤ m) × (m + 3 ≤ e)
 unfolding criterionF
 criterion-two always y a b c h = absurd (a (is-tag (33, []) h))
-criterion-two (exists s) y a b c h = absurd (b (is-tag (34, bytes (pathF s ∷ [])) h))
-criterion-two (equal s v) y a b c h = let i = two-inside 35 (pathF s) (arrayF v) y h in (i .after, i .within)
-criterion-two (same s s′) y a b c h = let i = two-inside 36 (pathF s) (pathF s′) y h in (i .after, i .within)
+criterion-two (exists s) y a b c h = absurd (b (is-tag (34, bytes (routeF s ∷ [])) h))
+criterion-two (equal s v) y a b c h = let i = two-inside 35 (routeF s) (arrayF v) y h in (i .after, i .within)
+criterion-two (same s s′) y a b c h = let i = two-inside 36 (routeF s) (routeF s′) y h in (i .after, i .within)
 criterion-two (negated d) y a b c h = absurd (c (is-tag (37, bytes (criterionF d ∷ [])) h))
 criterion-two (both d d′) y a b c h = let i = two-inside 38 (criterionF d) (criterionF d′) y h in (i .after, i .within)
 criterion-two (either d d′) y a b c h = let i = two-inside 39 (criterionF d) (criterionF d′) y h in (i .after, i .within)
@@ -129,76 +131,76 @@ module _ {q : List ℕ} {m e : ℕ} (d : ℕ) (h : Is q m e (fieldBytes (divisor
 -- ---- data
 abbrev pub dataTagged : (p m n d e tag : ℕ) → DataAt
 dataTagged p m n d e tag =
-    cond (eqb tag 40) (DataAt.Literal (p + 6) e)
-    (cond (eqb tag 41) (DataAt.Path (p + 6) e)
-    (cond (eqb tag 42) (DataAt.Listed (p + 3) e)
-    (cond (eqb tag 43) (DataAt.Test (p + 3) e)
-    (cond (eqb tag 44) (DataAt.Choice (p + 3) m m n n e)
-    (DataAt.Reduced (p + 6) m d)))))
+    cond (eqb tag 40) (DataAt.Literal (span (p + 6) e))
+    (cond (eqb tag 41) (DataAt.Path (span (p + 3) e))
+    (cond (eqb tag 42) (DataAt.Listed (span (p + 3) e))
+    (cond (eqb tag 43) (DataAt.Test (span (p + 3) e))
+    (cond (eqb tag 44) (DataAt.Choice (span (p + 3) m) (span m n) (span n e))
+    (DataAt.Reduced (span (p + 3) m) d)))))
 
-abbrev DataCase : (q : List ℕ) (p e : ℕ) → Data → DataAt → Type 0
-DataCase q p e x (DataAt.Literal f t) = OnePart literal arrayTrees q p e x f t
-DataCase q p e x (DataAt.Path f t) = OnePart path pathBytes q p e x f t
-DataCase q p e x (DataAt.Listed f t) = OnePart listed datasBytes q p e x f t
-DataCase q p e x (DataAt.Test f t) = OnePart test criterionBytes q p e x f t
-DataCase q p e x (DataAt.Choice f t g u h v) = ThreeParts choice criterionBytes dataBytes dataBytes q p e x f t g u h v
-DataCase q p e x (DataAt.Reduced f t n) = ReducedIs q p e x f t n
+abbrev DataCase : (q : List ℕ) (at : Span) → Data → DataAt → Type 0
+DataCase q at x (DataAt.Literal f) = OnePart literal arrayTrees q at x f
+DataCase q at x (DataAt.Path f) = OnePart path routeBytes q at x f
+DataCase q at x (DataAt.Listed f) = OnePart listed datasBytes q at x f
+DataCase q at x (DataAt.Test f) = OnePart test criterionBytes q at x f
+DataCase q at x (DataAt.Choice f g i) = ThreeParts choice criterionBytes dataBytes dataBytes q at x f g i
+DataCase q at x (DataAt.Reduced f n) = ReducedIs q at x f n
 
-data-is : {q : List ℕ} {p e : ℕ} {x : Data} {r : DataAt} → DataCase q p e x r → DataIs q p e x r
+data-is : {q : List ℕ} {p e : ℕ} {x : Data} {r : DataAt} → DataCase q (span p e) x r → DataIs q (span p e) x r
 data-is {q} {p} {e} {x} h = record {
-  literal-is = λ f t z. subst (DataCase q p e x) z h;
-  path-is = λ f t z. subst (DataCase q p e x) z h;
-  listed-is = λ f t z. subst (DataCase q p e x) z h;
-  test-is = λ f t z. subst (DataCase q p e x) z h;
-  choice-is = λ f t g u h′ v z. subst (DataCase q p e x) z h;
-  reduced-is = λ f t n z. subst (DataCase q p e x) z h;
+  literal-is = λ f z. subst (DataCase q (span p e) x) z h;
+  path-is = λ f z. subst (DataCase q (span p e) x) z h;
+  listed-is = λ f z. subst (DataCase q (span p e) x) z h;
+  test-is = λ f z. subst (DataCase q (span p e) x) z h;
+  choice-is = λ f g i z. subst (DataCase q (span p e) x) z h;
+  reduced-is = λ f n z. subst (DataCase q (span p e) x) z h;
 }
 
-reduced-case : {q : List ℕ} {p m d e : ℕ} → m ≡ fieldEnd q (p + 3) → d ≡ divisorAt q m → (s : Path) (k : ℕ)
-    → Is q p e (fieldBytes (45, bytes (pathF s ∷ divisorF k ∷ []))) → ReducedIs q p e (reduced s k) (p + 6) m d
+reduced-case : {q : List ℕ} {p m d e : ℕ} → m ≡ fieldEnd q (p + 3) → d ≡ divisorAt q m → (s : Route) (k : ℕ)
+    → Is q p e (fieldBytes (45, bytes (routeF s ∷ divisorF k ∷ []))) → ReducedIs q (span p e) (reduced s k) (span (p + 3) m) d
 unfolding pathF
 reduced-case {q} {p} y w s k h =
-    let i = two-inside 45 (pathF s) (divisorF k) y h in
+    let i = two-inside 45 (routeF s) (divisorF k) y h in
     record {
       source = s;
       divisor = k;
       same = refl;
-      source-is = first-held p (pathF s) (i .first-is);
+      source-is = i .first-is;
       divisor-is = λ o. w ∙ divisor-is k (i .second-is) (o .1);
       after = omega arith;
       within = omega (arith, i .within);
     }
 
 -- the list's members stand where its content does
-listed-case : {q : List ℕ} {p e : ℕ} (ds : Datas) → Is q p e (fieldBytes (42, datasBytes ds)) → OnePart listed datasBytes q p e (listed ds) (p + 3) e
+listed-case : {q : List ℕ} {p e : ℕ} (ds : Datas) → Is q p e (fieldBytes (42, datasBytes ds)) → OnePart listed datasBytes q (span p e) (listed ds) (span (p + 3) e)
 listed-case ds h = let c = is-content (42, datasBytes ds) h in record { part = ds; same = refl; part-is = c; after = omega arith; within = omega arith }
 
 data-case : {q : List ℕ} {p m n d e : ℕ} → m ≡ fieldEnd q (p + 3) → n ≡ fieldEnd q m → d ≡ divisorAt q m → (x : Data) → Is q p e (dataBytes x)
-    → DataCase q p e x (dataTagged p m n d e (dataF x .0))
+    → DataCase q (span p e) x (dataTagged p m n d e (dataF x .0))
 unfolding dataF pathF arrayF
 data-case y z w (literal a) h = one-held literal arrayF 40 a h
-data-case y z w (path s) h = one-held path pathF 41 s h
+data-case y z w (path s) h = one-whole path routeF 41 s h
 data-case y z w (listed ds) h = listed-case ds h
 data-case y z w (test c) h = one-whole test criterionF 43 c h
 data-case y z w (choice c a b) h = three-whole choice criterionF dataF dataF 44 c a b y z h
 data-case y z w (reduced s k) h = reduced-case y w s k h
 
 pub data-reads : (q : List ℕ) (p e : ℕ) {m n d tag : ℕ} → m ≡ fieldEnd q (p + 3) → n ≡ fieldEnd q m → d ≡ divisorAt q m → getD q p 0 ≡ tag
-    → ReadsData q p e (dataTagged p m n d e tag)
+    → ReadsData q (span p e) (dataTagged p m n d e tag)
 data-reads q p e {m} {n} {d} y z w v x h =
-    data-is (subst (λ t. DataCase q p e x (dataTagged p m n d e t)) (sym (is-tag (dataF x) h) ∙ v) (data-case y z w x h))
+    data-is (subst (λ t. DataCase q (span p e) x (dataTagged p m n d e t)) (sym (is-tag (dataF x) h) ∙ v) (data-case y z w x h))
 
 -- the last of them
 pub data-reads-reduced : (q : List ℕ) (p e : ℕ) {m d : ℕ} → m ≡ fieldEnd q (p + 3) → d ≡ divisorAt q m → TagNot q p 40 → TagNot q p 41
-    → TagNot q p 42 → TagNot q p 43 → TagNot q p 44 → ReadsData q p e (DataAt.Reduced (p + 6) m d)
+    → TagNot q p 42 → TagNot q p 43 → TagNot q p 44 → ReadsData q (span p e) (DataAt.Reduced (span (p + 3) m) d)
 data-reads-reduced q p e {m} {d} y w a b c f g =
     let t : ℕ = getD q p 0 in
-    let z : dataTagged p m (fieldEnd q m) d e t ≡ DataAt.Reduced (p + 6) m d
+    let z : dataTagged p m (fieldEnd q m) d e t ≡ DataAt.Reduced (span (p + 3) m) d
     = rw (ne-eqb t 40 a, ne-eqb t 41 b, ne-eqb t 42 c, ne-eqb t 43 f, ne-eqb t 44 g) refl in
-    subst (ReadsData q p e) z (data-reads q p e y refl w refl)
+    subst (ReadsData q (span p e)) z (data-reads q p e y refl w refl)
 
 -- the divisor that is read of data that the rules allow: never 0
-pub reduced-range : {q : List ℕ} {p e : ℕ} {x : Data} {f t n : ℕ} → ReducedIs q p e x f t n → OkD x → (1 ≤ n) × (n ≤ divisorMax)
+pub reduced-range : {q : List ℕ} {p e : ℕ} {x : Data} {f : Span} {n : ℕ} → ReducedIs q (span p e) x f n → OkD x → (1 ≤ n) × (n ≤ divisorMax)
 reduced-range h o =
     let r = divisor-range (h .divisor) (subst OkD (h .same) o .1) in
     let z = h .divisor-is o in
@@ -216,7 +218,7 @@ data-several : {q : List ℕ} {p m e : ℕ} (x : Data) → m ≡ fieldEnd q (p +
     → TagNot q p 43 → Is q p e (dataBytes x) → SeveralData q p m e
 unfolding dataF
 data-several (literal v) y a b c d h = absurd (a (is-tag (40, bytes (arrayF v ∷ [])) h))
-data-several (path s) y a b c d h = absurd (b (is-tag (41, bytes (pathF s ∷ [])) h))
+data-several (path s) y a b c d h = absurd (b (is-tag (41, bytes (routeF s ∷ [])) h))
 data-several (listed ds) y a b c d h = absurd (c (is-tag (42, bytes (dataFs ds)) h))
 data-several (test k) y a b c d h = absurd (d (is-tag (43, bytes (criterionF k ∷ [])) h))
 data-several (choice k u v) y a b c d h =
@@ -229,10 +231,10 @@ data-several (choice k u v) y a b c d h =
       inside = h .inside;
     }
 data-several (reduced s k) y a b c d h =
-    let i = two-inside 45 (pathF s) (divisorF k) y h in
+    let i = two-inside 45 (routeF s) (divisorF k) y h in
     record {
       after = i .after;
-      choice-within = λ z. absurd (omega (arith, is-tag (45, bytes (pathF s ∷ divisorF k ∷ [])) h));
+      choice-within = λ z. absurd (omega (arith, is-tag (45, bytes (routeF s ∷ divisorF k ∷ [])) h));
       reduced-within = λ z. divisor-room k (i .second-is);
       within = i .within;
       inside = h .inside;
@@ -244,32 +246,32 @@ data-room h y a b c d = data-several (h .value) y a b c d (h .value-is)
 
 -- ---- items
 abbrev pub itemTagged : (p m e tag : ℕ) → ItemAt
-itemTagged p m e tag = cond (eqb tag 47) (ItemAt.Keep (p + 6) e) (ItemAt.Place (p + 3) m (m + 3) e)
+itemTagged p m e tag = cond (eqb tag 47) (ItemAt.Keep (span (p + 3) e)) (ItemAt.Place (span (p + 3) m) (span m e))
 
-abbrev ItemCase : (q : List ℕ) (p e : ℕ) → Item → ItemAt → Type 0
-ItemCase q p e x (ItemAt.Keep f t) = OnePart keep pathBytes q p e x f t
-ItemCase q p e x (ItemAt.Place f t g u) = TwoParts place dataBytes pathBytes q p e x f t g u
+abbrev ItemCase : (q : List ℕ) (at : Span) → Item → ItemAt → Type 0
+ItemCase q at x (ItemAt.Keep f) = OnePart keep pathBytes q at x f
+ItemCase q at x (ItemAt.Place f g) = TwoParts place dataBytes pathBytes q at x f g
 
-item-is : {q : List ℕ} {p e : ℕ} {x : Item} {r : ItemAt} → ItemCase q p e x r → ItemIs q p e x r
+item-is : {q : List ℕ} {p e : ℕ} {x : Item} {r : ItemAt} → ItemCase q (span p e) x r → ItemIs q (span p e) x r
 item-is {q} {p} {e} {x} h = record {
-  keep-is = λ f t z. subst (ItemCase q p e x) z h;
-  place-is = λ f t g u z. subst (ItemCase q p e x) z h;
+  keep-is = λ f z. subst (ItemCase q (span p e) x) z h;
+  place-is = λ f g z. subst (ItemCase q (span p e) x) z h;
 }
 
-item-case : {q : List ℕ} {p m e : ℕ} → m ≡ fieldEnd q (p + 3) → (x : Item) → Is q p e (itemBytes x) → ItemCase q p e x (itemTagged p m e (itemF x .0))
+item-case : {q : List ℕ} {p m e : ℕ} → m ≡ fieldEnd q (p + 3) → (x : Item) → Is q p e (itemBytes x) → ItemCase q (span p e) x (itemTagged p m e (itemF x .0))
 unfolding itemF pathF
-item-case y (keep s) h = one-held keep pathF 47 s h
-item-case y (place d s) h = two-mixed place dataF pathF 48 d s y h
+item-case y (keep s) h = one-whole keep pathF 47 s h
+item-case y (place d s) h = two-whole place dataF pathF 48 d s y h
 
-pub item-reads : (q : List ℕ) (p e : ℕ) {m tag : ℕ} → m ≡ fieldEnd q (p + 3) → getD q p 0 ≡ tag → ReadsItem q p e (itemTagged p m e tag)
+pub item-reads : (q : List ℕ) (p e : ℕ) {m tag : ℕ} → m ≡ fieldEnd q (p + 3) → getD q p 0 ≡ tag → ReadsItem q (span p e) (itemTagged p m e tag)
 item-reads q p e {m} y z x h =
-    item-is (subst (λ t. ItemCase q p e x (itemTagged p m e t)) (sym (is-tag (itemF x) h) ∙ z) (item-case y x h))
+    item-is (subst (λ t. ItemCase q (span p e) x (itemTagged p m e t)) (sym (is-tag (itemF x) h) ∙ z) (item-case y x h))
 
 -- the last of them
-pub item-reads-place : (q : List ℕ) (p e : ℕ) {m : ℕ} → m ≡ fieldEnd q (p + 3) → TagNot q p 47 → ReadsItem q p e (ItemAt.Place (p + 3) m (m + 3) e)
+pub item-reads-place : (q : List ℕ) (p e : ℕ) {m : ℕ} → m ≡ fieldEnd q (p + 3) → TagNot q p 47 → ReadsItem q (span p e) (ItemAt.Place (span (p + 3) m) (span m e))
 item-reads-place q p e {m} y a =
-    let z : itemTagged p m e (getD q p 0) ≡ ItemAt.Place (p + 3) m (m + 3) e = rw (ne-eqb (getD q p 0) 47 a) refl in
-    subst (ReadsItem q p e) z (item-reads q p e y refl)
+    let z : itemTagged p m e (getD q p 0) ≡ ItemAt.Place (span (p + 3) m) (span m e) = rw (ne-eqb (getD q p 0) 47 a) refl in
+    subst (ReadsItem q (span p e)) z (item-reads q p e y refl)
 
 item-two : {q : List ℕ} {p m e : ℕ} (x : Item) → m ≡ fieldEnd q (p + 3) → TagNot q p 47 → Is q p e (itemBytes x) → (p + 6 ≤ m) × (m + 3 ≤ e)
 unfolding itemF
@@ -280,66 +282,72 @@ pub item-room : {q : List ℕ} {p m e : ℕ} → Holds itemBytes q p e → m ≡
 item-room h y a = let r = item-two (h .value) y a (h .value-is) in (r .0, r .1, h .value-is .inside)
 
 -- ---- pairs
-pub pair-reads : {q : List ℕ} {p m e : ℕ} → m ≡ fieldEnd q (p + 3) → (x : Pair) → Is q p e (pairBytes x) → TwoParts pairOf pathBytes pathBytes q p e x (p + 6) m (m + 3) e
+pub pair-reads : {q : List ℕ} {p m e : ℕ} → m ≡ fieldEnd q (p + 3) → (x : Pair) → Is q p e (pairBytes x) → TwoParts pairOf routeBytes pathBytes q (span p e) x (span (p + 3) m) (span m e)
 unfolding pairF pathF
-pair-reads y x h = two-held pairOf pathF pathF 49 (x .source) (x .target) y h
+pair-reads y x h = two-whole pairOf routeF pathF 49 (x .source) (x .target) y h
 
 pub pair-room : {q : List ℕ} {p m e : ℕ} → Holds pairBytes q p e → m ≡ fieldEnd q (p + 3) → (p + 6 ≤ m) × (m + 3 ≤ e) × (e ≤ length q)
 unfolding pairF
 pair-room h y =
-    let i = two-inside 49 (pathF (h .value .source)) (pathF (h .value .target)) y (h .value-is) in
+    let i = two-inside 49 (routeF (h .value .source)) (pathF (h .value .target)) y (h .value-is) in
     (i .after, i .within, h .value-is .inside)
 
 -- ---- stages
+abbrev pub groupAt : Span → Span → GroupAt
+groupAt a k = record { aggregates = a; keys = k }
+
+abbrev pub lookupAt : Span → Span → Span → LookupAt
+lookupAt f g h = record { own = f; theirs = g; target = h }
+
 abbrev pub stageTagged : (p m n e tag : ℕ) → StageAt
 stageTagged p m n e tag =
-    cond (eqb tag 17) (StageAt.Match (p + 3) e)
-    (cond (eqb tag 18) (StageAt.Unwind (p + 6) e)
-    (cond (eqb tag 19) (StageAt.Project (p + 3) e)
-    (cond (eqb tag 20) (StageAt.Group (p + 6) m (m + 3) e)
-    (StageAt.Lookup (p + 6) m (m + 3) n (n + 3) e))))
+    cond (eqb tag 17) (StageAt.Match (span (p + 3) e))
+    (cond (eqb tag 18) (StageAt.Unwind (span (p + 3) e))
+    (cond (eqb tag 19) (StageAt.Project (span (p + 3) e))
+    (cond (eqb tag 20) (StageAt.Group (groupAt (span (p + 6) m) (span (m + 3) e)))
+    (StageAt.Lookup (lookupAt (span (p + 3) m) (span m n) (span n e))))))
 
-abbrev StageCase : (q : List ℕ) (p e : ℕ) → Stage → StageAt → Type 0
-StageCase q p e x (StageAt.Match f t) = OnePart match criterionBytes q p e x f t
-StageCase q p e x (StageAt.Unwind f t) = OnePart unwind pathBytes q p e x f t
-StageCase q p e x (StageAt.Project f t) = OnePart project itemsBytes q p e x f t
-StageCase q p e x (StageAt.Group f t g u) = TwoParts group pairsBytes pairsBytes q p e x f t g u
-StageCase q p e x (StageAt.Lookup f t g u h v) = ThreeParts lookup pathBytes pathBytes pathBytes q p e x f t g u h v
+abbrev StageCase : (q : List ℕ) (at : Span) → Stage → StageAt → Type 0
+StageCase q at x (StageAt.Match f) = OnePart match criterionBytes q at x f
+StageCase q at x (StageAt.Unwind f) = OnePart unwind pathBytes q at x f
+StageCase q at x (StageAt.Project f) = OnePart project itemsBytes q at x f
+StageCase q at x (StageAt.Group f) = GroupIs q at x f
+StageCase q at x (StageAt.Lookup f) = LookupIs q at x f
 
-stage-is : {q : List ℕ} {p e : ℕ} {x : Stage} {r : StageAt} → StageCase q p e x r → StageIs q p e x r
+stage-is : {q : List ℕ} {p e : ℕ} {x : Stage} {r : StageAt} → StageCase q (span p e) x r → StageIs q (span p e) x r
 stage-is {q} {p} {e} {x} h = record {
-  match-is = λ f t z. subst (StageCase q p e x) z h;
-  unwind-is = λ f t z. subst (StageCase q p e x) z h;
-  project-is = λ f t z. subst (StageCase q p e x) z h;
-  group-is = λ f t g u z. subst (StageCase q p e x) z h;
-  lookup-is = λ f t g u h′ v z. subst (StageCase q p e x) z h;
+  match-is = λ f z. subst (StageCase q (span p e) x) z h;
+  unwind-is = λ f z. subst (StageCase q (span p e) x) z h;
+  project-is = λ f z. subst (StageCase q (span p e) x) z h;
+  group-is = λ f z. subst (StageCase q (span p e) x) z h;
+  lookup-is = λ f z. subst (StageCase q (span p e) x) z h;
 }
 
 -- a project's items stand where its content does
-project-case : {q : List ℕ} {p e : ℕ} (is : List Item) → Is q p e (fieldBytes (19, itemsBytes is)) → OnePart project itemsBytes q p e (project is) (p + 3) e
+project-case : {q : List ℕ} {p e : ℕ} (is : List Item) → Is q p e (fieldBytes (19, itemsBytes is)) → OnePart project itemsBytes q (span p e) (project is) (span (p + 3) e)
 project-case is h = let c = is-content (19, itemsBytes is) h in record { part = is; same = refl; part-is = c; after = omega arith; within = omega arith }
 
 stage-case : {q : List ℕ} {p m n e : ℕ} → m ≡ fieldEnd q (p + 3) → n ≡ fieldEnd q m → (x : Stage) → Is q p e (stageBytes x)
-    → StageCase q p e x (stageTagged p m n e (stageF x .0))
+    → StageCase q (span p e) x (stageTagged p m n e (stageF x .0))
 unfolding stageF pairsF pathF
 stage-case y z (match c) h = one-whole match criterionF 17 c h
-stage-case y z (unwind s) h = one-held unwind pathF 18 s h
+stage-case y z (unwind s) h = one-whole unwind pathF 18 s h
 stage-case y z (project is) h = project-case is h
 stage-case y z (group a b) h = two-held group (pairsF 50) (pairsF 51) 20 a b y h
-stage-case y z (lookup a b c) h = three-held lookup pathF pathF pathF 21 a b c y z h
+stage-case y z (lookup a b c) h = three-whole lookup routeF routeF pathF 21 a b c y z h
 
-pub stage-reads : (q : List ℕ) (p e : ℕ) {m n tag : ℕ} → m ≡ fieldEnd q (p + 3) → n ≡ fieldEnd q m → getD q p 0 ≡ tag → ReadsStage q p e (stageTagged p m n e tag)
+pub stage-reads : (q : List ℕ) (p e : ℕ) {m n tag : ℕ} → m ≡ fieldEnd q (p + 3) → n ≡ fieldEnd q m → getD q p 0 ≡ tag → ReadsStage q (span p e) (stageTagged p m n e tag)
 stage-reads q p e {m} {n} y z v x h =
-    stage-is (subst (λ t. StageCase q p e x (stageTagged p m n e t)) (sym (is-tag (stageF x) h) ∙ v) (stage-case y z x h))
+    stage-is (subst (λ t. StageCase q (span p e) x (stageTagged p m n e t)) (sym (is-tag (stageF x) h) ∙ v) (stage-case y z x h))
 
 -- the last of them
 pub stage-reads-lookup : (q : List ℕ) (p e : ℕ) {m n : ℕ} → m ≡ fieldEnd q (p + 3) → n ≡ fieldEnd q m → TagNot q p 17 → TagNot q p 18
-    → TagNot q p 19 → TagNot q p 20 → ReadsStage q p e (StageAt.Lookup (p + 6) m (m + 3) n (n + 3) e)
+    → TagNot q p 19 → TagNot q p 20 → ReadsStage q (span p e) (StageAt.Lookup (lookupAt (span (p + 3) m) (span m n) (span n e)))
 stage-reads-lookup q p e {m} {n} y z a b c d =
     let t : ℕ = getD q p 0 in
-    let w : stageTagged p m n e t ≡ StageAt.Lookup (p + 6) m (m + 3) n (n + 3) e
+    let w : stageTagged p m n e t ≡ StageAt.Lookup (lookupAt (span (p + 3) m) (span m n) (span n e))
     = rw (ne-eqb t 17 a, ne-eqb t 18 b, ne-eqb t 19 c, ne-eqb t 20 d) refl in
-    subst (ReadsStage q p e) w (stage-reads q p e y z refl)
+    subst (ReadsStage q (span p e)) w (stage-reads q p e y z refl)
 
 -- the parts of a group or a lookup have their heads
 pub record SeveralStage (q : List ℕ) (p m e : ℕ) : Type 0 where
@@ -363,7 +371,7 @@ stage-several (group u v) y a b c h =
       inside = h .inside;
     }
 stage-several (lookup s u v) y a b c h =
-    let i = three-inside 21 (pathF s) (pathF u) (pathF v) y refl h in
+    let i = three-inside 21 (routeF s) (routeF u) (pathF v) y refl h in
     record {
       after = i .after;
       lookup-within = λ z. (i .between, i .within);

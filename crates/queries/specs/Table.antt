@@ -1,44 +1,56 @@
 -- The table by tag: which tags may stand inside a field, in which order and how many. The code's constant is this list
 -- (`table::rule_of`), and `TableLaws` shows that it says what the readers of `Decode` read.
 use mathlib.Core.List.{List, [], _∷_}
-use mathlib.Core.Bool.{Bool, _&&_}
+use mathlib.Core.Bool.{Bool, _&&_, _||_}
 use Prim.Native.Nat.{ℕ, zero, suc}
 use lib.ListN.{getD}
-use lib.Dec.{leb}
+use lib.Dec.{eqb, leb}
 use Rattle.spec_trees.specs.Limits.{stagesMax, itemsMax, membersMax, aggregatesMax, groupingMax}
 use Rattle.queries.specs.declared.table.Child.{Child}
 use Rattle.queries.specs.declared.table.Rule.{Rule}
 
 -- ---- children
--- what a child may be: its tag is `low` to `high`, and its content has at least `least` bytes
-abbrev pub child : ℕ → ℕ → ℕ → Child
-child low high least = record { 0 = low; 1 = high; 2 = least }
+-- what a child may be: its tag is `low` to `high`, or `second`, or `third`, and its content has at least `least` bytes
+abbrev pub child : ℕ → ℕ → ℕ → ℕ → ℕ → Child
+child low high second third least = record { 0 = low; 1 = high; 2 = second; 3 = third; 4 = least }
 
--- whether a child may have the tag t and n content bytes
+-- no child: no tag is 1 to 0, and no byte is 256
+abbrev pub noTags : Child
+noTags = child 1 0 256 256 0
+
+-- a kind of the tags `low` to `high`: where there are no further tags, the first one stands for them
+abbrev pub range : ℕ → ℕ → Child
+range low high = child low high low low 0
+
+-- whether a child may have the tag t
+unfoldable pub mayBe : Child → ℕ → Bool
+mayBe ch t = (leb (ch .0) t && leb t (ch .1)) || (eqb t (ch .2) || eqb t (ch .3))
+
+-- and whether such a child may have n content bytes
 unfoldable pub allowed : Child → ℕ → ℕ → Bool
-allowed ch t n = leb (ch .0) t && (leb t (ch .1) && leb (ch .2) n)
+allowed ch t n = mayBe ch t && leb (ch .4) n
 
 -- ---- kinds of children: a child is named by its place here
 abbrev pub kinds : List Child
 kinds =
-    child 1 0 0
-    ∷ child 1 1 0
-    ∷ child 17 21 0
-    ∷ child 32 32 0
-    ∷ child 32 32 1
-    ∷ child 33 39 0
-    ∷ child 40 45 0
-    ∷ child 46 46 0
-    ∷ child 47 48 0
-    ∷ child 49 49 0
-    ∷ child 50 50 0
-    ∷ child 51 51 0
+    noTags
+    ∷ range 1 1
+    ∷ range 17 21
+    ∷ range 32 32
+    ∷ range 32 32
+    ∷ child 32 32 32 32 1
+    ∷ range 33 39
+    ∷ range 40 45
+    ∷ range 46 46
+    ∷ range 47 48
+    ∷ range 49 49
+    ∷ range 50 50
+    ∷ range 51 51
     ∷ []
 
 unfoldable pub kindAt : ℕ → Child
-kindAt k = getD kinds k (child 1 0 0)
+kindAt k = getD kinds k noTags
 
--- no tag is 1 to 0
 abbrev pub noChild : ℕ
 noChild = 0
 
@@ -51,30 +63,34 @@ stageChild = 2
 abbrev pub pathChild : ℕ
 pathChild = 3
 
+-- a path that is applied: the same tags for now
+abbrev pub routeChild : ℕ
+routeChild = 4
+
 -- a path not empty
 abbrev pub givenChild : ℕ
-givenChild = 4
+givenChild = 5
 
 abbrev pub criterionChild : ℕ
-criterionChild = 5
+criterionChild = 6
 
 abbrev pub dataChild : ℕ
-dataChild = 6
+dataChild = 7
 
 abbrev pub divisorChild : ℕ
-divisorChild = 7
+divisorChild = 8
 
 abbrev pub itemChild : ℕ
-itemChild = 8
+itemChild = 9
 
 abbrev pub pairChild : ℕ
-pairChild = 9
+pairChild = 10
 
 abbrev pub aggregatesChild : ℕ
-aggregatesChild = 10
+aggregatesChild = 11
 
 abbrev pub groupingChild : ℕ
-groupingChild = 11
+groupingChild = 12
 
 -- ---- rules
 -- by kinds, the first child, the second, and each later one; the least and the greatest count
@@ -121,33 +137,33 @@ rules =
     ∷ holdsOne pathChild
     ∷ holdsMany itemChild 1 itemsMax
     ∷ holdsTwo aggregatesChild groupingChild
-    ∷ holdsThree pathChild pathChild givenChild
+    ∷ holdsThree routeChild routeChild givenChild
     -- 22 to 31 are no tags
     ∷ never ∷ never ∷ never ∷ never ∷ never ∷ never ∷ never ∷ never ∷ never ∷ never
     -- 32 path: labels, and no fields
     ∷ never
     -- 33 true, 34 exists, 35 equal, 36 same, 37 not, 38 and, 39 or
     ∷ holdsNothing
-    ∷ holdsOne pathChild
-    ∷ holdsTwo pathChild arrayChild
-    ∷ holdsTwo pathChild pathChild
+    ∷ holdsOne routeChild
+    ∷ holdsTwo routeChild arrayChild
+    ∷ holdsTwo routeChild routeChild
     ∷ holdsOne criterionChild
     ∷ holdsTwo criterionChild criterionChild
     ∷ holdsTwo criterionChild criterionChild
     -- 40 literal, 41 path, 42 list, 43 criterion, 44 choice, 45 reduced
     ∷ holdsOne arrayChild
-    ∷ holdsOne pathChild
+    ∷ holdsOne routeChild
     ∷ holdsMany dataChild 1 membersMax
     ∷ holdsOne criterionChild
     ∷ holdsThree criterionChild dataChild dataChild
-    ∷ holdsTwo pathChild divisorChild
+    ∷ holdsTwo routeChild divisorChild
     -- 46 divisor: two bytes, and no fields
     ∷ never
     -- 47 keep, 48 place
     ∷ holdsOne pathChild
     ∷ holdsTwo dataChild givenChild
     -- 49 pair, 50 aggregates, 51 grouping
-    ∷ holdsTwo pathChild givenChild
+    ∷ holdsTwo routeChild givenChild
     ∷ holdsMany pairChild 0 aggregatesMax
     ∷ holdsMany pairChild 0 groupingMax
     ∷ []

@@ -1,7 +1,7 @@
 -- The table says what the readers read: one theorem over all tags, `table-agrees`.
-use mathlib.Core.Path.{_≡_, refl, sym, ap, _∙_}
+use mathlib.Core.Path.{_≡_, refl, sym, ap, subst, _∙_}
 use mathlib.Core.List.{List, [], _∷_}
-use mathlib.Core.Bool.{Bool, true, false, cond, _&&_, and-false}
+use mathlib.Core.Bool.{Bool, true, false, cond, _&&_, _||_, and-true, and-false}
 use mathlib.Core.Option.{Option}
 use mathlib.Core.Logic.{_⊎_, inl, inr}
 use Prim.Native.Nat.{ℕ, zero, suc, _+_, _-_, _≤_, _<_}
@@ -9,8 +9,8 @@ use native.Mathlib.Numerals.{sub-one}
 use native.Mathlib.Nat.{zero-add, add-zero}
 use native.Mathlib.Omega.{arith}
 use lib.ListN.{length, getD, List·getD-eq-default}
-use lib.Dec.{T, leb, ltb, leb·zero, leb→le}
-use borrow.Author.Tests.{ne-eqb, le-leb, lt-leb, leb-true, leb-false}
+use lib.Dec.{T, eqb, leb, ltb, leb·zero, leb→le}
+use borrow.Author.Tests.{eqb-true, eqb-false, ne-eqb, le-leb, lt-leb, leb-true, leb-false}
 use Rattle.spec_trees.specs.Options.{only, some?}
 use Rattle.spec_trees.specs.Limits.{nestMax, stagesMax, itemsMax, membersMax, aggregatesMax, groupingMax}
 use Rattle.spec_trees.specs.Bytes.{Field}
@@ -18,10 +18,10 @@ use Rattle.spec_trees.specs.Readers.{Reader, Table, chosen, among, tagged}
 use Rattle.spec_trees.specs.Decode.{arrayWith, arrayR}
 use Rattle.spec_trees.specs.OptionLaws.{T-and}
 use Rattle.spec_queries.specs.Query.{always, exists, equal, same, negated, both, either, literal, path, listed, test, choice, reduced, datas, keep, place, match, unwind, project, group, lookup}
-use Rattle.spec_queries.specs.Decode.{pathR, pathR⁺, criterionR, criterionTable, divisorR, dataR, dataTable, itemR, itemTable, pairOf, pairR, pairsR, stageR, stageTable, queryR}
+use Rattle.spec_queries.specs.Decode.{pathR, pathR⁺, routeR, criterionR, criterionTable, divisorR, dataR, dataTable, itemR, itemTable, pairOf, pairR, pairsR, stageR, stageTable, queryR}
 use Rattle.queries.specs.declared.table.Child.{Child}
 use Rattle.queries.specs.declared.table.Rule.{Rule}
-use Rattle.queries.specs.Table.{child, allowed, kinds, kindAt, arrayChild, stageChild, pathChild, givenChild, criterionChild, dataChild, divisorChild, itemChild, pairChild, aggregatesChild, groupingChild, never, rules, ruleAt}
+use Rattle.queries.specs.Table.{child, noTags, range, mayBe, allowed, kinds, kindAt, noChild, arrayChild, stageChild, pathChild, routeChild, givenChild, criterionChild, dataChild, divisorChild, itemChild, pairChild, aggregatesChild, groupingChild, never, rules, ruleAt}
 use Rattle.queries.specs.Accept.{criterionOk, dataOk, fieldOk, childOk, contentOk, byRule, leaf, nested, deeper, byTable}
 use Rattle.queries.specs.ShapeLaws.{some-only, Takes, Reads, one-ok, two-ok, three-ok, many-ok, none-ok, never-ok}
 
@@ -30,17 +30,35 @@ use Rattle.queries.specs.ShapeLaws.{some-only, Takes, Reads, one-ok, two
 abbrev pub Outside : ℕ → ℕ → ℕ → Type 0
 Outside low high t = (t < low) ⊎ (high < t)
 
-module _ (d low high : ℕ) {A : Type 0} (r : Reader A)
+-- a kind by its range and its two further tags
+module _ (d low high second third : ℕ) {A : Type 0} (r : Reader A)
     (in-range : (t : ℕ) (c : List ℕ) → low ≤ t → t ≤ high → fieldOk d (t, c) ≡ some? (r (t, c)))
-    (outside : (t : ℕ) (c : List ℕ) → Outside low high t → some? (r (t, c)) ≡ false) where
-  by-tests : (f : Field) (a b : Bool) → leb low (f .0) ≡ a → leb (f .0) high ≡ b → some? (r f) ≡ (a && (b && leb 0 (length (f .1)))) && fieldOk d f
-  by-tests f true true p q = rw (leb·zero (length (f .1))) (sym (in-range (f .0) (f .1) (leb-true low (f .0) p) (leb-true (f .0) high q)))
-  by-tests f true false p q = outside (f .0) (f .1) (inr (leb-false (f .0) high q))
-  by-tests f false b p q = outside (f .0) (f .1) (inl (leb-false low (f .0) p))
+    (at-second : (c : List ℕ) → fieldOk d (second, c) ≡ some? (r (second, c)))
+    (at-third : (c : List ℕ) → fieldOk d (third, c) ≡ some? (r (third, c)))
+    (outside : (t : ℕ) (c : List ℕ) → Outside low high t → (t ≡ second → ⊥) → (t ≡ third → ⊥) → some? (r (t, c)) ≡ false) where
+  -- a tag is one of the further two, or no tag of this kind
+  by-singles : (f : Field) (a b : Bool) → Outside low high (f .0) → eqb (f .0) second ≡ a → eqb (f .0) third ≡ b → some? (r f) ≡ (a || b) && fieldOk d f
+  by-singles f true b o p q = subst (λ t. some? (r (t, f .1)) ≡ fieldOk d (t, f .1)) (sym (eqb-true (f .0) second p)) (sym (at-second (f .1)))
+  by-singles f false true o p q = subst (λ t. some? (r (t, f .1)) ≡ fieldOk d (t, f .1)) (sym (eqb-true (f .0) third q)) (sym (at-third (f .1)))
+  by-singles f false false o p q = outside (f .0) (f .1) o (eqb-false (f .0) second p) (eqb-false (f .0) third q)
 
-  range-reads : Takes (fieldOk d) r (child low high 0)
-  unfolding childOk allowed
-  range-reads f = by-tests f (leb low (f .0)) (leb (f .0) high) refl refl
+  by-tests : (f : Field) (a b : Bool) → leb low (f .0) ≡ a → leb (f .0) high ≡ b
+      → some? (r f) ≡ ((a && b) || (eqb (f .0) second || eqb (f .0) third)) && fieldOk d f
+  by-tests f true true p q = sym (in-range (f .0) (f .1) (leb-true low (f .0) p) (leb-true (f .0) high q))
+  by-tests f true false p q = by-singles f _ _ (inr (leb-false (f .0) high q)) refl refl
+  by-tests f false b p q = by-singles f _ _ (inl (leb-false low (f .0) p)) refl refl
+
+  kind-reads : Takes (fieldOk d) r (child low high second third 0)
+  unfolding childOk allowed mayBe
+  kind-reads f = rw (leb·zero (length (f .1)), and-true) (by-tests f (leb low (f .0)) (leb (f .0) high) refl refl)
+
+-- a range, and no further tags
+range-reads : (d low high : ℕ) {A : Type 0} (r : Reader A) → low ≤ high
+    → ((t : ℕ) (c : List ℕ) → low ≤ t → t ≤ high → fieldOk d (t, c) ≡ some? (r (t, c)))
+    → ((t : ℕ) (c : List ℕ) → Outside low high t → some? (r (t, c)) ≡ false) → Takes (fieldOk d) r (range low high)
+range-reads d low high r l h o =
+    let first : (c : List ℕ) → fieldOk d (low, c) ≡ some? (r (low, c)) = λ c. h low c (omega arith) l in
+    kind-reads d low high low low r h first first (λ t c out a b. o t c out)
 
 -- a reader of one tag
 tagged-outside : {A : Type 0} (k : ℕ) (p : List ℕ → Option A) (t : ℕ) (c : List ℕ) → Outside k k t → some? (tagged k p (t, c)) ≡ false
@@ -48,8 +66,8 @@ unfolding tagged only some?
 tagged-outside k p t c (inl l) = rw (ne-eqb t k (λ e. omega arith)) refl
 tagged-outside k p t c (inr l) = rw (ne-eqb t k (λ e. omega arith)) refl
 
-tagged-reads : {A : Type 0} (d k : ℕ) (p : List ℕ → Option A) → ((c : List ℕ) → fieldOk d (k, c) ≡ some? (tagged k p (k, c))) → Takes (fieldOk d) (tagged k p) (child k k 0)
-tagged-reads d k p h = range-reads d k k (tagged k p) (λ t c a b. let e : t ≡ k = omega arith in rw e (h c)) (tagged-outside k p)
+tagged-reads : {A : Type 0} (d k : ℕ) (p : List ℕ → Option A) → ((c : List ℕ) → fieldOk d (k, c) ≡ some? (tagged k p (k, c))) → Takes (fieldOk d) (tagged k p) (range k k)
+tagged-reads d k p h = range-reads d k k (tagged k p) (omega arith) (λ t c a b. let e : t ≡ k = omega arith in rw e (h c)) (tagged-outside k p)
 
 -- a reader by a table: no entry has a tag outside
 unfoldable tags-within : {A : Type 0} → ℕ → ℕ → Table A → Bool
@@ -68,6 +86,12 @@ chosen-outside low high (x ∷ xs) t c w o =
     differ (inl l) a b e = omega arith
     differ (inr l) a b e = omega arith
 
+-- where no child may stand, no byte is the tag of one
+pub none-allowed : (t n : ℕ) → t < 256 → allowed (kindAt noChild) t n ≡ false
+unfolding kindAt allowed mayBe
+none-allowed zero n l = refl
+none-allowed (suc t) n l = rw (ne-eqb (suc t) 256 (λ e. omega arith), le-leb 1 (suc t) (omega arith), lt-leb (suc t) 0 (omega arith)) refl
+
 module _ (d : ℕ) where
   array-reads : Reads (fieldOk d) arrayR arrayChild
   unfolding kindAt fieldOk arrayR arrayWith
@@ -76,6 +100,10 @@ module _ (d : ℕ) where
   path-reads : Reads (fieldOk d) pathR pathChild
   unfolding kindAt fieldOk pathR
   path-reads = record { takes = tagged-reads d 32 _ (λ c. refl) }
+
+  route-reads : Reads (fieldOk d) routeR routeChild
+  unfolding kindAt
+  route-reads = record { takes = path-reads .takes }
 
   divisor-reads : Reads (fieldOk d) divisorR divisorChild
   unfolding kindAt fieldOk divisorR
@@ -95,24 +123,23 @@ module _ (d : ℕ) where
 
   -- a path not empty
   given-reads : Reads (fieldOk d) pathR⁺ givenChild
-  unfolding kindAt pathR⁺ childOk allowed
+  unfolding kindAt pathR⁺ childOk allowed mayBe
   given-reads = record {
     takes = λ f.
         some-only (leb 1 (length (f .1))) (pathR f)
         ∙ (ap (λ x. leb 1 (length (f .1)) && x) (path-reads .takes f)
-        ∙ rw (leb·zero (length (f .1))) (go (leb 1 (length (f .1))) (leb 32 (f .0)) (leb (f .0) 32) (fieldOk d f)));
+        ∙ rw (leb·zero (length (f .1))) (go (leb 1 (length (f .1))) (mayBe (range 32 32) (f .0)) (fieldOk d f)));
   }
     where
-      go : (n a b x : Bool) → n && (a && (b && true) && x) ≡ a && (b && n) && x
-      go true a b x = refl
-      go false true true x = refl
-      go false true false x = refl
-      go false false b x = refl
+      go : (n a x : Bool) → n && ((a && true) && x) ≡ (a && n) && x
+      go true a x = refl
+      go false true x = refl
+      go false false x = refl
 
   stage-reads : Reads (fieldOk d) stageR stageChild
   unfolding kindAt fieldOk stageR among tags-within
   stage-reads = record {
-    takes = range-reads d 17 21 stageR
+    takes = range-reads d 17 21 stageR (omega arith)
         (λ t c a b. rw (lt-leb t 15 (omega arith), lt-leb t 16 (omega arith), le-leb t 31 (omega arith)) refl)
         (λ t c o. chosen-outside 17 21 stageTable t c tt o);
   }
@@ -120,7 +147,7 @@ module _ (d : ℕ) where
   item-reads : Reads (fieldOk d) itemR itemChild
   unfolding kindAt fieldOk itemR among tags-within
   item-reads = record {
-    takes = range-reads d 47 48 itemR
+    takes = range-reads d 47 48 itemR (omega arith)
         (λ t c a b. rw (lt-leb t 15 (omega arith), lt-leb t 16 (omega arith), lt-leb t 31 (omega arith), lt-leb t 32 (omega arith), lt-leb t 39 (omega arith), lt-leb t 45 (omega arith), lt-leb t 46 (omega arith), le-leb t 48 b) refl)
         (λ t c o. chosen-outside 47 48 itemTable t c tt o);
   }
@@ -140,7 +167,7 @@ criterion-outside (suc d) t c o = chosen-outside 33 39 (criterionTable (criterio
 
 criterion-reads : (d : ℕ) → Reads (fieldOk d) (criterionR d) criterionChild
 unfolding kindAt criterionOk
-criterion-reads d = record { takes = range-reads d 33 39 (criterionR d) (criterion-field d) (criterion-outside d) }
+criterion-reads d = record { takes = range-reads d 33 39 (criterionR d) (omega arith) (criterion-field d) (criterion-outside d) }
 
 data-outside : (d t : ℕ) (c : List ℕ) → Outside 40 45 t → some? (dataR d (t, c)) ≡ false
 unfolding dataR among tags-within some?
@@ -149,7 +176,7 @@ data-outside (suc d) t c o = chosen-outside 40 45 (dataTable (criterionR d) (dat
 
 data-reads : (d : ℕ) → Reads (fieldOk d) (dataR d) dataChild
 unfolding kindAt dataOk
-data-reads d = record { takes = range-reads d 40 45 (dataR d) (data-field d) (data-outside d) }
+data-reads d = record { takes = range-reads d 40 45 (dataR d) (omega arith) (data-field d) (data-outside d) }
 
 -- ---- the agreement
 abbrev Agrees : ℕ → Type 0
@@ -194,32 +221,32 @@ agreement =
     also (λ l d. one-ok unwind (path-reads nestMax))
     also (λ l d. many-ok project 1 itemsMax (item-reads nestMax))
     also (λ l d. two-ok group (aggregates-reads nestMax) (grouping-reads nestMax))
-    also (λ l d. three-ok lookup (path-reads nestMax) (path-reads nestMax) (given-reads nestMax))
+    also (λ l d. three-ok lookup (route-reads nestMax) (route-reads nestMax) (given-reads nestMax))
     -- 22 to 31
     also no-tag also no-tag also no-tag also no-tag also no-tag also no-tag also no-tag also no-tag also no-tag also no-tag
     -- 32: paths
     also leaf-agrees 32 refl
     -- 33 to 39: criteria
     also nested-agrees 33 (λ c. refl) (λ d. none-ok (fieldOk d) always)
-    also nested-agrees 34 (λ c. refl) (λ d. one-ok exists (path-reads d))
-    also nested-agrees 35 (λ c. refl) (λ d. two-ok equal (path-reads d) (array-reads d))
-    also nested-agrees 36 (λ c. refl) (λ d. two-ok same (path-reads d) (path-reads d))
+    also nested-agrees 34 (λ c. refl) (λ d. one-ok exists (route-reads d))
+    also nested-agrees 35 (λ c. refl) (λ d. two-ok equal (route-reads d) (array-reads d))
+    also nested-agrees 36 (λ c. refl) (λ d. two-ok same (route-reads d) (route-reads d))
     also nested-agrees 37 (λ c. refl) (λ d. one-ok negated (criterion-reads d))
     also nested-agrees 38 (λ c. refl) (λ d. two-ok both (criterion-reads d) (criterion-reads d))
     also nested-agrees 39 (λ c. refl) (λ d. two-ok either (criterion-reads d) (criterion-reads d))
     -- 40 to 45: data
     also nested-agrees 40 (λ c. refl) (λ d. one-ok literal (array-reads d))
-    also nested-agrees 41 (λ c. refl) (λ d. one-ok path (path-reads d))
+    also nested-agrees 41 (λ c. refl) (λ d. one-ok path (route-reads d))
     also nested-agrees 42 (λ c. refl) (λ d. many-ok (λ ds. listed (datas ds)) 1 membersMax (data-reads d))
     also nested-agrees 43 (λ c. refl) (λ d. one-ok test (criterion-reads d))
     also nested-agrees 44 (λ c. refl) (λ d. three-ok choice (criterion-reads d) (data-reads d) (data-reads d))
-    also nested-agrees 45 (λ c. refl) (λ d. two-ok reduced (path-reads d) (divisor-reads d))
+    also nested-agrees 45 (λ c. refl) (λ d. two-ok reduced (route-reads d) (divisor-reads d))
     -- 46: divisors
     also leaf-agrees 46 refl
     -- 47 to 51: items, pairs, aggregates and grouping
     also (λ l d. one-ok keep (path-reads nestMax))
     also (λ l d. two-ok place (data-reads nestMax) (given-reads nestMax))
-    also (λ l d. two-ok pairOf (path-reads nestMax) (given-reads nestMax))
+    also (λ l d. two-ok pairOf (route-reads nestMax) (given-reads nestMax))
     also (λ l d. many-ok (λ ps. ps) 0 aggregatesMax (pair-reads nestMax))
     also (λ l d. many-ok (λ ps. ps) 0 groupingMax (pair-reads nestMax))
     also tt
@@ -254,13 +281,13 @@ pub rule-out : (t : ℕ) → 52 ≤ t → ruleAt t ≡ never
 unfolding ruleAt
 rule-out t l = List·getD-eq-default rules never {n = t} l
 
-pub kind-in : (k : ℕ) (x : Child) → k < 12 → getD kinds k x ≡ kindAt k
+pub kind-in : (k : ℕ) (x : Child) → k < 13 → getD kinds k x ≡ kindAt k
 unfolding kindAt
-kind-in k x l = in-list kinds k x (child 1 0 0) l
+kind-in k x l = in-list kinds k x noTags l
 
-pub kind-out : (k : ℕ) → 12 ≤ k → kindAt k ≡ child 1 0 0
+pub kind-out : (k : ℕ) → 13 ≤ k → kindAt k ≡ noTags
 unfolding kindAt
-kind-out k l = List·getD-eq-default kinds (child 1 0 0) {n = k} l
+kind-out k l = List·getD-eq-default kinds noTags {n = k} l
 
 -- ---- the same by the parts of the code
 -- where no level is left

@@ -4,7 +4,9 @@
 use crate::path;
 use crate::table;
 use crate::table::Rule;
+use areas::number::two_at;
 use areas::number::wide;
+use areas::span::Span;
 use format::check;
 use format::check::Check;
 use format::head;
@@ -26,10 +28,10 @@ ghost use Rattle.queries.specs.Accept.{criterionOk, dataOk, fieldOk, chi
 ghost use Rattle.format.specs.Check.{checkOf};
 
 /// A label: 1 to its limit.
-fn is_label(k: u16) -> bool
-    ensures { λ r. ⌜ r ≡ isLabel k ⌝ }
+fn is_label(label: u16) -> bool
+    ensures { λ r. ⌜ r ≡ isLabel label ⌝ }
 {
-    let n = k as usize;
+    let n = label as usize;
     if n < 1 {
         return false;
     }
@@ -37,17 +39,17 @@ fn is_label(k: u16) -> bool
 }
 
 /// A path's content: not too many steps, each a label.
-fn check_path(s: &[u8], from: usize, to: usize) -> bool
-    requires { ⌜ (from ≤ to) × (to ≤ length (now s)) ⌝ }
-    ensures { λ r. ⌜ r ≡ isPath (slice from to (now (s .entry))) ⌝ }
+fn check_path(area: &[u8], content: Span) -> bool
+    requires { ⌜ (content .from ≤ content .to) × (content .to ≤ length (now area)) ⌝ }
+    ensures { λ r. ⌜ r ≡ isPath (slice (content .from) (content .to) (now (area .entry))) ⌝ }
 {
-    let n = path::steps(from, to);
+    let n = path::count_in(content.from, content.to);
     if Limits::PATH < n {
         return false;
     }
     let mut i = 0;
     while i < n {
-        if is_label(path::step_at(s, from, i)) {
+        if is_label(path::step_in(area, content.from, i)) {
             i += 1;
         } else {
             return false;
@@ -57,14 +59,14 @@ fn check_path(s: &[u8], from: usize, to: usize) -> bool
 }
 
 /// A divisor's content: two bytes, high byte first, 1 to its limit.
-fn check_divisor(s: &[u8], from: usize, to: usize) -> bool
-    requires { ⌜ (from ≤ to) × (to ≤ length (now s)) ⌝ }
-    ensures { λ r. ⌜ r ≡ some? (divisorR (46, slice from to (now (s .entry)))) ⌝ }
+fn check_divisor(area: &[u8], content: Span) -> bool
+    requires { ⌜ (content .from ≤ content .to) × (content .to ≤ length (now area)) ⌝ }
+    ensures { λ r. ⌜ r ≡ some? (divisorR (46, slice (content .from) (content .to) (now (area .entry)))) ⌝ }
 {
-    if to - from != 2 {
+    if content.to - content.from != 2 {
         return false;
     }
-    let n = wide(s[from]) * 256 + wide(s[from + 1]);
+    let n = two_at(area, content.from);
     if n < 1 {
         return false;
     }
@@ -73,61 +75,58 @@ fn check_divisor(s: &[u8], from: usize, to: usize) -> bool
 
 /// Any field by its tag and content, where criteria and data may nest `left` deep. Below a stage, an item or a pair,
 /// which are in no criterion and in no data, all levels are left.
-fn check_field(s: &[u8], tag: u8, from: usize, to: usize, left: usize) -> bool
-    requires { ⌜ (from ≤ to) × (to ≤ length (now s)) ⌝ }
-    ensures { λ r. ⌜ r ≡ fieldOk left (tag, slice from to (now (s .entry))) ⌝ }
+fn check_field(area: &[u8], tag: u8, content: Span, left: usize) -> bool
+    requires { ⌜ (content .from ≤ content .to) × (content .to ≤ length (now area)) ⌝ }
+    ensures { λ r. ⌜ r ≡ fieldOk left (tag, slice (content .from) (content .to) (now (area .entry))) ⌝ }
 {
     match tag {
-        1 => check::check_array_field(s, tag, from, to, Limits::DEPTH),
-        32 => check_path(s, from, to),
-        33..=39 => check_criterion(s, tag, from, to, left),
-        40..=45 => check_data(s, tag, from, to, left),
-        46 => check_divisor(s, from, to),
-        _ => check_children(s, table::rule_of(tag), from, to, Limits::NEST),
+        1 => check::check_array_field(area, tag, content, Limits::DEPTH),
+        32 => check_path(area, content),
+        33..=39 => check_criterion(area, tag, content, left),
+        40..=45 => check_data(area, tag, content, left),
+        46 => check_divisor(area, content),
+        _ => check_children(area, table::rule_of(tag), content, Limits::NEST),
     }
 }
 
 /// A criterion by its tag and content: it counts 1, and what it holds nests one level less deep.
-fn check_criterion(s: &[u8], tag: u8, from: usize, to: usize, left: usize) -> bool
-    requires { ⌜ (from ≤ to) × (to ≤ length (now s)) × (33 ≤ tag) × (tag ≤ 39) ⌝ }
-    ensures { λ r. ⌜ r ≡ criterionOk left (tag, slice from to (now (s .entry))) ⌝ }
+fn check_criterion(area: &[u8], tag: u8, content: Span, left: usize) -> bool
+    requires { ⌜ (content .from ≤ content .to) × (content .to ≤ length (now area)) × (33 ≤ tag) × (tag ≤ 39) ⌝ }
+    ensures { λ r. ⌜ r ≡ criterionOk left (tag, slice (content .from) (content .to) (now (area .entry))) ⌝ }
 {
     if left == 0 {
         return false;
     }
-    check_children(s, table::rule_of(tag), from, to, left - 1)
+    check_children(area, table::rule_of(tag), content, left - 1)
 }
 
 /// Data by their tag and content, lists and choices among them: they count 1, and what they hold nests one level less
 /// deep.
-fn check_data(s: &[u8], tag: u8, from: usize, to: usize, left: usize) -> bool
-    requires { ⌜ (from ≤ to) × (to ≤ length (now s)) × (40 ≤ tag) × (tag ≤ 45) ⌝ }
-    ensures { λ r. ⌜ r ≡ dataOk left (tag, slice from to (now (s .entry))) ⌝ }
+fn check_data(area: &[u8], tag: u8, content: Span, left: usize) -> bool
+    requires { ⌜ (content .from ≤ content .to) × (content .to ≤ length (now area)) × (40 ≤ tag) × (tag ≤ 45) ⌝ }
+    ensures { λ r. ⌜ r ≡ dataOk left (tag, slice (content .from) (content .to) (now (area .entry))) ⌝ }
 {
     if left == 0 {
         return false;
     }
-    check_children(s, table::rule_of(tag), from, to, left - 1)
+    check_children(area, table::rule_of(tag), content, left - 1)
 }
 
-/// The fields from `from` to `to` as a rule of the table says: each child in its place, not too many and not too few.
-fn check_children(s: &[u8], rule: Rule, from: usize, to: usize, left: usize) -> bool
-    requires { ⌜ (from ≤ to) × (to ≤ length (now s)) ⌝ }
-    ensures { λ r. ⌜ r ≡ contentOk (fieldOk left) rule 0 (slice from to (now (s .entry))) ⌝ }
+/// Fields, one behind another, as a rule of the table says: each child in its place, not too many and not too few.
+fn check_children(area: &[u8], rule: Rule, content: Span, left: usize) -> bool
+    requires { ⌜ (content .from ≤ content .to) × (content .to ≤ length (now area)) ⌝ }
+    ensures { λ r. ⌜ r ≡ contentOk (fieldOk left) rule 0 (slice (content .from) (content .to) (now (area .entry))) ⌝ }
 {
-    let mut at = from;
-    let mut n: usize = 0;
-    while at < to {
-        let h = head::head_at(s, at, to);
+    let end = content.to;
+    let mut at = content.from;
+    let mut count: usize = 0;
+    while at < end {
+        let h = head::head_at(area, at, end);
         match h {
-            Head::Field {
-                tag,
-                from: inner,
-                to: end,
-            } => {
-                if check_child(s, rule, n, tag, inner, end, left) {
-                    n += 1;
-                    at = end;
+            Head::Field { tag, from, to } => {
+                if check_child(area, rule, count, tag, Span { from, to }, left) {
+                    count += 1;
+                    at = to;
                 } else {
                     return false;
                 }
@@ -137,31 +136,31 @@ fn check_children(s: &[u8], rule: Rule, from: usize, to: usize, left: usize) -> 
             }
         }
     }
-    wide(rule.3) <= n
+    wide(rule.3) <= count
 }
 
-/// The child behind n others, by its tag and content.
-fn check_child(s: &[u8], rule: Rule, n: usize, tag: u8, from: usize, to: usize, left: usize) -> bool
-    requires { ⌜ (from ≤ to) × (to ≤ length (now s)) ⌝ }
-    ensures { λ r. ⌜ r ≡ ltb n (rule .4) && childOk (fieldOk left) (childAt rule n) (tag, slice from to (now (s .entry))) ⌝ }
+/// The child behind `count` others, by its tag and content.
+fn check_child(area: &[u8], rule: Rule, count: usize, tag: u8, content: Span, left: usize) -> bool
+    requires { ⌜ (content .from ≤ content .to) × (content .to ≤ length (now area)) ⌝ }
+    ensures { λ r. ⌜ r ≡ ltb count (rule .4) && childOk (fieldOk left) (childAt rule count) (tag, slice (content .from) (content .to) (now (area .entry))) ⌝ }
 {
-    if wide(rule.4) <= n {
+    if wide(rule.4) <= count {
         return false;
     }
-    if table::allows(table::child_at(rule, n), tag, to - from) {
-        check_field(s, tag, from, to, left)
+    if table::allows(table::child_at(rule, count), tag, content.to - content.from) {
+        check_field(area, tag, content, left)
     } else {
         false
     }
 }
 
 /// A query field by its tag and content.
-fn check_query_field(s: &[u8], tag: u8, from: usize, to: usize) -> bool
-    requires { ⌜ (from ≤ to) × (to ≤ length (now s)) ⌝ }
-    ensures { λ r. ⌜ r ≡ some? (queryR (tag, slice from to (now (s .entry)))) ⌝ }
+fn check_query_field(area: &[u8], tag: u8, content: Span) -> bool
+    requires { ⌜ (content .from ≤ content .to) × (content .to ≤ length (now area)) ⌝ }
+    ensures { λ r. ⌜ r ≡ some? (queryR (tag, slice (content .from) (content .to) (now (area .entry)))) ⌝ }
 {
     if tag == 16 {
-        check_field(s, tag, from, to, Limits::NEST)
+        check_field(area, tag, content, Limits::NEST)
     } else {
         false
     }
@@ -177,7 +176,7 @@ pub fn check_query(bytes: &[u8]) -> Check
     let h = view::spanning(bytes);
     match h {
         Head::Field { tag, from, to } => {
-            if check_query_field(bytes, tag, from, to) {
+            if check_query_field(bytes, tag, Span { from, to }) {
                 Check::Accepted
             } else {
                 Check::Malformed

@@ -1,56 +1,66 @@
 //! Criteria: which one stands at a place, and where its parts stand.
 //! Evaluators hold places, and never look at tags or lengths themselves.
-ghost use Rattle.format.specs.Stand.{Holds};
-ghost use Rattle.queries.specs.Places.{TagNot, criterionBytes, ReadsCriterion};
+ghost use Rattle.queries.specs.Places.{TagNot, HoldsAt, criterionBytes, ReadsCriterion};
 use areas::area::field_end;
+use areas::span::Span;
 
-/// A criterion by the places of its parts, each from its first byte to behind its last. A path's place is that of its
-/// labels, an array's that of its trees, a criterion's that of its whole field.
+/// A criterion by the places of its parts. A path's place, and a criterion's, is that of its whole field, an array's
+/// that of its trees.
 pub enum CriterionAt {
     Always,
-    Exists(usize, usize),
-    Equal(usize, usize, usize, usize),
-    Same(usize, usize, usize, usize),
-    Negated(usize, usize),
-    Both(usize, usize, usize, usize),
-    Either(usize, usize, usize, usize),
+    Exists(Span),
+    Equal(Span, Span),
+    Same(Span, Span),
+    Negated(Span),
+    Both(Span, Span),
+    Either(Span, Span),
 }
 
-/// The criterion of two parts that stands from p to e: only these need to look where a part ends.
-fn two_at(q: &[u8], p: usize, e: usize) -> CriterionAt
-    requires { ⌜ Holds criterionBytes (now q) p e × TagNot (now q) p 33 × TagNot (now q) p 34 × TagNot (now q) p 37 ⌝ }
-    ensures { λ r. ⌜ ReadsCriterion (now (q .entry)) p e r ⌝ }
+/// The criterion of two parts that stands there: only these need to look where a part ends.
+fn two_at(query: &[u8], criterion: Span) -> CriterionAt
+    requires { ⌜ HoldsAt criterionBytes (now query) criterion × TagNot (now query) (criterion .from) 33 × TagNot (now query) (criterion .from) 34 × TagNot (now query) (criterion .from) 37 ⌝ }
+    ensures { λ r. ⌜ ReadsCriterion (now (query .entry)) criterion r ⌝ }
 {
-    let tag = q[p];
-    let m = field_end(q, p + 3);
-    let f = p + 6;
-    let g = m + 3;
+    let at = criterion.from;
+    let to = criterion.to;
+    let tag = query[at];
+    let m = field_end(query, at + 3);
+    let one = Span {
+        from: at + 3,
+        to: m,
+    };
     if tag == 35 {
-        return CriterionAt::Equal(f, m, g, e);
+        return CriterionAt::Equal(one, Span { from: m + 3, to });
     }
+    let two = Span { from: m, to };
     if tag == 36 {
-        return CriterionAt::Same(f, m, g, e);
+        return CriterionAt::Same(one, two);
     }
     if tag == 38 {
-        return CriterionAt::Both(p + 3, m, m, e);
+        return CriterionAt::Both(one, two);
     }
-    CriterionAt::Either(p + 3, m, m, e)
+    CriterionAt::Either(one, two)
 }
 
-/// The criterion that stands from p to e.
-pub fn criterion_at(q: &[u8], p: usize, e: usize) -> CriterionAt
-    requires { ⌜ Holds criterionBytes (now q) p e ⌝ }
-    ensures { λ r. ⌜ ReadsCriterion (now (q .entry)) p e r ⌝ }
+/// The criterion that stands there.
+pub fn criterion_at(query: &[u8], criterion: Span) -> CriterionAt
+    requires { ⌜ HoldsAt criterionBytes (now query) criterion ⌝ }
+    ensures { λ r. ⌜ ReadsCriterion (now (query .entry)) criterion r ⌝ }
 {
-    let tag = q[p];
+    let at = criterion.from;
+    let tag = query[at];
     if tag == 33 {
         return CriterionAt::Always;
     }
+    let one = Span {
+        from: at + 3,
+        to: criterion.to,
+    };
     if tag == 34 {
-        return CriterionAt::Exists(p + 6, e);
+        return CriterionAt::Exists(one);
     }
     if tag == 37 {
-        return CriterionAt::Negated(p + 3, e);
+        return CriterionAt::Negated(one);
     }
-    two_at(q, p, e)
+    two_at(query, criterion)
 }

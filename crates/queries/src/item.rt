@@ -1,47 +1,56 @@
 //! What a project merges, and the pairs of a group: where their parts stand.
-ghost use Rattle.format.specs.Stand.{Holds};
-ghost use Rattle.queries.specs.Places.{itemBytes, pairBytes, ReadsItem, ReadsPair};
+ghost use Rattle.queries.specs.Places.{HoldsAt, itemBytes, pairBytes, ReadsItem, ReadsPair};
 use areas::area::field_end;
+use areas::span::Span;
 
 /// An item by the places of its parts, as `CriterionAt` has them.
 pub enum ItemAt {
-    Keep(usize, usize),
-    Place(usize, usize, usize, usize),
+    Keep(Span),
+    Place(Span, Span),
 }
 
 /// The places of a pair's two paths.
 pub struct PairAt {
-    pub source: usize,
-    pub source_end: usize,
-    pub target: usize,
-    pub target_end: usize,
+    pub source: Span,
+    pub target: Span,
 }
 
-/// The item that stands from p to e.
-pub fn item_at(q: &[u8], p: usize, e: usize) -> ItemAt
-    requires { ⌜ Holds itemBytes (now q) p e ⌝ }
-    ensures { λ r. ⌜ ReadsItem (now (q .entry)) p e r ⌝ }
+/// The item that stands there.
+pub fn item_at(query: &[u8], item: Span) -> ItemAt
+    requires { ⌜ HoldsAt itemBytes (now query) item ⌝ }
+    ensures { λ r. ⌜ ReadsItem (now (query .entry)) item r ⌝ }
 {
-    let tag = q[p];
+    let at = item.from;
+    let to = item.to;
+    let tag = query[at];
     if tag == 47 {
-        return ItemAt::Keep(p + 6, e);
+        return ItemAt::Keep(Span { from: at + 3, to });
     }
-    let m = field_end(q, p + 3);
-    ItemAt::Place(p + 3, m, m + 3, e)
+    let m = field_end(query, at + 3);
+    ItemAt::Place(
+        Span {
+            from: at + 3,
+            to: m,
+        },
+        Span { from: m, to },
+    )
 }
 
-/// The pair that stands from p to e.
-pub fn pair_at(q: &[u8], p: usize, e: usize) -> PairAt
-    requires { ⌜ Holds pairBytes (now q) p e ⌝ }
-    ensures { λ r. ⌜ ReadsPair (now (q .entry)) p e r ⌝ }
+/// The pair that stands there.
+pub fn pair_at(query: &[u8], pair: Span) -> PairAt
+    requires { ⌜ HoldsAt pairBytes (now query) pair ⌝ }
+    ensures { λ r. ⌜ ReadsPair (now (query .entry)) pair r ⌝ }
 {
-    let m = field_end(q, p + 3);
-    let f = p + 6;
-    let g = m + 3;
+    let at = pair.from;
+    let m = field_end(query, at + 3);
     PairAt {
-        source: f,
-        source_end: m,
-        target: g,
-        target_end: e,
+        source: Span {
+            from: at + 3,
+            to: m,
+        },
+        target: Span {
+            from: m,
+            to: pair.to,
+        },
     }
 }

@@ -3,10 +3,11 @@
 //! number: a table of structs in structs takes the prover minutes, and this one seconds.
 use format::limits::Limits;
 ghost use mathlib.Core.Path.{_≡_};
-ghost use Rattle.queries.specs.Table.{allowed, kindAt, childAt, ruleAt};
+ghost use Rattle.queries.specs.Table.{mayBe, allowed, kindAt, childAt, ruleAt};
 
-/// What a child may be: its tag is the first number to the second, and its content has at least the third in bytes.
-pub struct Child(pub u8, pub u8, pub u8);
+/// What a child may be: its tag is the first number to the second, or the third, or the fourth, and its content has at
+/// least the fifth in bytes. The two further tags are wider than a byte, so that there is a number that no tag is.
+pub struct Child(pub u8, pub u8, pub u16, pub u16, pub u8);
 
 /// What may stand inside a field, by kinds: its first child, its second, and each later one; the least and the greatest
 /// count.
@@ -21,49 +22,57 @@ const STAGE: u8 = 2;
 
 const PATH: u8 = 3;
 
+// a path that is applied
+const ROUTE: u8 = 4;
+
 // a path that must not be empty
-const GIVEN: u8 = 4;
+const GIVEN: u8 = 5;
 
-const CRITERION: u8 = 5;
+const CRITERION: u8 = 6;
 
-const DATA: u8 = 6;
+const DATA: u8 = 7;
 
-const DIVISOR: u8 = 7;
+const DIVISOR: u8 = 8;
 
-const ITEM: u8 = 8;
+const ITEM: u8 = 9;
 
-const PAIR: u8 = 9;
+const PAIR: u8 = 10;
 
-const AGGREGATES: u8 = 10;
+const AGGREGATES: u8 = 11;
 
-const GROUPING: u8 = 11;
+const GROUPING: u8 = 12;
 
-/// By kind.
-const KINDS: [Child; 12] = [
-    // none: no tag is 1 to 0
-    Child(1, 0, 0),
+/// No child: no tag is 1 to 0, and no byte is 256.
+const NO_TAGS: Child = Child(1, 0, 256, 256, 0);
+
+/// By kind. Where a kind has no further tags, its first tag stands for them.
+const KINDS: [Child; 13] = [
+    // none
+    NO_TAGS,
     // array
-    Child(1, 1, 0),
+    Child(1, 1, 1, 1, 0),
     // stage
-    Child(17, 21, 0),
+    Child(17, 21, 17, 17, 0),
     // path
-    Child(32, 32, 0),
+    Child(32, 32, 32, 32, 0),
+    // path that is applied: the same for now
+    Child(32, 32, 32, 32, 0),
     // path not empty
-    Child(32, 32, 1),
+    Child(32, 32, 32, 32, 1),
     // criterion
-    Child(33, 39, 0),
+    Child(33, 39, 33, 33, 0),
     // data
-    Child(40, 45, 0),
+    Child(40, 45, 40, 40, 0),
     // divisor
-    Child(46, 46, 0),
+    Child(46, 46, 46, 46, 0),
     // item
-    Child(47, 48, 0),
+    Child(47, 48, 47, 47, 0),
     // pair
-    Child(49, 49, 0),
+    Child(49, 49, 49, 49, 0),
     // aggregates
-    Child(50, 50, 0),
+    Child(50, 50, 50, 50, 0),
     // grouping
-    Child(51, 51, 0),
+    Child(51, 51, 51, 51, 0),
 ];
 
 /// No content passes, not even an empty one: the least count is above the greatest.
@@ -99,7 +108,7 @@ const RULES: [Rule; 52] = [
     // 20 group
     Rule(AGGREGATES, GROUPING, NONE, 2, 2),
     // 21 lookup
-    Rule(PATH, PATH, GIVEN, 3, 3),
+    Rule(ROUTE, ROUTE, GIVEN, 3, 3),
     // 22 to 31 are no tags
     NEVER,
     NEVER,
@@ -116,11 +125,11 @@ const RULES: [Rule; 52] = [
     // 33 true
     Rule(NONE, NONE, NONE, 0, 0),
     // 34 exists
-    Rule(PATH, NONE, NONE, 1, 1),
+    Rule(ROUTE, NONE, NONE, 1, 1),
     // 35 equal
-    Rule(PATH, ARRAY, NONE, 2, 2),
+    Rule(ROUTE, ARRAY, NONE, 2, 2),
     // 36 same
-    Rule(PATH, PATH, NONE, 2, 2),
+    Rule(ROUTE, ROUTE, NONE, 2, 2),
     // 37 not
     Rule(CRITERION, NONE, NONE, 1, 1),
     // 38 and
@@ -130,7 +139,7 @@ const RULES: [Rule; 52] = [
     // 40 literal
     Rule(ARRAY, NONE, NONE, 1, 1),
     // 41 path, as data
-    Rule(PATH, NONE, NONE, 1, 1),
+    Rule(ROUTE, NONE, NONE, 1, 1),
     // 42 list
     Rule(DATA, DATA, DATA, 1, Limits::MEMBERS as u8),
     // 43 criterion, as data
@@ -138,7 +147,7 @@ const RULES: [Rule; 52] = [
     // 44 choice
     Rule(CRITERION, DATA, DATA, 3, 3),
     // 45 reduced
-    Rule(PATH, DIVISOR, NONE, 2, 2),
+    Rule(ROUTE, DIVISOR, NONE, 2, 2),
     // 46 divisor: two bytes, and no fields
     NEVER,
     // 47 keep
@@ -146,7 +155,7 @@ const RULES: [Rule; 52] = [
     // 48 place
     Rule(DATA, GIVEN, NONE, 2, 2),
     // 49 pair
-    Rule(PATH, GIVEN, NONE, 2, 2),
+    Rule(ROUTE, GIVEN, NONE, 2, 2),
     // 50 aggregates
     Rule(PAIR, PAIR, PAIR, 0, Limits::AGGREGATES as u8),
     // 51 grouping
@@ -170,37 +179,52 @@ pub fn rule_of(tag: u8) -> Rule
 pub fn child_of(kind: u8) -> Child
     ensures { λ r. ⌜ r ≡ kindAt kind ⌝ }
 {
-    if kind < 12 {
+    if kind < 13 {
         let i = kind as usize;
         let r = KINDS[i];
         r
     } else {
-        Child(1, 0, 0)
+        NO_TAGS
     }
 }
 
-/// What the child behind n others may be.
-pub fn child_at(rule: Rule, n: usize) -> Child
-    ensures { λ r. ⌜ r ≡ childAt rule n ⌝ }
+/// What the child behind `count` others may be.
+pub fn child_at(rule: Rule, count: usize) -> Child
+    ensures { λ r. ⌜ r ≡ childAt rule count ⌝ }
 {
-    if n == 0 {
+    if count == 0 {
         return child_of(rule.0);
     }
-    if n == 1 {
+    if count == 1 {
         return child_of(rule.1);
     }
     child_of(rule.2)
+}
+
+/// Whether a child may have this tag: one of the further tags, or one of the range.
+fn may_be(child: Child, tag: u8) -> bool
+    ensures { λ r. ⌜ r ≡ mayBe child tag ⌝ }
+{
+    let t = tag as u16;
+    if t == child.2 {
+        return true;
+    }
+    if t == child.3 {
+        return true;
+    }
+    if tag < child.0 {
+        return false;
+    }
+    tag <= child.1
 }
 
 /// Whether a child may have this tag and this many content bytes.
 pub fn allows(child: Child, tag: u8, len: usize) -> bool
     ensures { λ r. ⌜ r ≡ allowed child tag len ⌝ }
 {
-    if tag < child.0 {
-        return false;
+    if may_be(child, tag) {
+        child.4 as usize <= len
+    } else {
+        false
     }
-    if child.1 < tag {
-        return false;
-    }
-    child.2 as usize <= len
 }

@@ -2,9 +2,9 @@
 //! nothing.
 ghost use Prim.Native.Nat.{_<_, _≤_};
 ghost use lib.ListN.{length};
-use crate::parts::alike;
 use crate::parts::behind;
 use crate::parts::front;
+use areas::compare::same_bytes;
 
 /// The byte at a place. Behind the end a line feed, so that a last line that has none ends too.
 pub fn byte_at(t: &[u8], at: usize) -> u8 {
@@ -13,7 +13,7 @@ pub fn byte_at(t: &[u8], at: usize) -> u8 {
 
 /// Whether the text begins with these bytes.
 pub fn begins(t: &[u8], word: &[u8]) -> bool {
-    alike(front(t, word.len()), word)
+    same_bytes(front(t, word.len()), word)
 }
 
 /// The place n bytes further, or the end.

@@ -26,18 +26,3 @@ pub fn each_is(b: &[u8], x: u8) -> bool {
     }
     true
 }
-
-/// Whether two slices have the same bytes.
-pub fn alike(a: &[u8], b: &[u8]) -> bool {
-    if a.len() != b.len() {
-        return false;
-    }
-    let mut i = 0;
-    while i < a.len() {
-        if a[i] != b[i] {
-            return false;
-        }
-        i += 1;
-    }
-    true
-}

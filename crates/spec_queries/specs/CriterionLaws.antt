@@ -15,9 +15,9 @@ use Rattle.spec_trees.specs.OptionLaws.{T-true, leb-yes, only-some}
 use Rattle.spec_trees.specs.ReaderLaws.{Law, field-eq, OneOf, among-some, tagged-some, emptied-some, one-back, one-form, two-back, two-form}
 use Rattle.spec_trees.specs.ArrayLaws.{arrayR-law}
 use Rattle.spec_queries.specs.Query.{Criterion, always, exists, equal, same, negated, both, either, isPath}
-use Rattle.spec_queries.specs.Bytes.{pathF, criterionF}
-use Rattle.spec_queries.specs.Decode.{pathR, pathR⁺, criterionR, criterionTable}
-use Rattle.spec_queries.specs.Rules.{OkP, OkP⁺, nestC, NestedC}
+use Rattle.spec_queries.specs.Bytes.{pathF, routeF, criterionF}
+use Rattle.spec_queries.specs.Decode.{pathR, pathR⁺, routeR, criterionR, criterionTable}
+use Rattle.spec_queries.specs.Rules.{OkP, OkP⁺, OkRoute, nestC, NestedC}
 
 -- ---- paths
 pub path-law : Law pathR pathF OkP
@@ -42,14 +42,17 @@ path⁺-law = record {
       (l .0, (l .1, rw q (leb→le 1 (length (f .1)) (o .0))));
 }
 
+pub route-law : Law routeR routeF OkRoute
+route-law = path-law
+
 -- ---- criteria
 module _ (d : ℕ) (r : Reader Criterion) (L : Law r criterionF (NestedC d)) where
   criterion-back : (c : Criterion) → NestedC (suc d) c → among (criterionTable r) (criterionF c) ≡ some c
   unfolding nestC criterionF among chosen emptied
   criterion-back always o = refl
-  criterion-back (exists p) o = one-back path-law exists p (o .0)
-  criterion-back (equal p a) o = two-back path-law arrayR-law equal p a (o .0 .0) (o .0 .1)
-  criterion-back (same p q) o = two-back path-law path-law same p q (o .0 .0) (o .0 .1)
+  criterion-back (exists p) o = one-back route-law exists p (o .0)
+  criterion-back (equal p a) o = two-back route-law arrayR-law equal p a (o .0 .0) (o .0 .1)
+  criterion-back (same p q) o = two-back route-law route-law same p q (o .0 .0) (o .0 .1)
   criterion-back (negated c) o = one-back L negated c (o .0, omega arith)
   criterion-back (both c e) o = two-back L L both c e (o .0 .0, omega arith) (o .0 .1, omega arith)
   criterion-back (either c e) o = two-back L L either c e (o .0 .0, omega arith) (o .0 .1, omega arith)
@@ -60,9 +63,9 @@ module _ (d : ℕ) (r : Reader Criterion) (L : Law r criterionF (NestedC d)) whe
     where
       go : OneOf (criterionTable r) f c → (criterionF c ≡ f) × NestedC (suc d) c
       go (inl p) = let q = emptied-some always (f .1) c (p .1) in rw (← q .0) (field-eq f 33 [] (p .0) (q .1), (tt, omega arith))
-      go (inr (inl p)) = let (a, q, l, w) = one-form path-law exists (f .1) c h (p .1) in rw (← q) (field-eq f 34 _ (p .0) (sym w), (l, omega arith))
-      go (inr (inr (inl p))) = let (a, b, q, l, m, w) = two-form path-law arrayR-law equal (f .1) c h (p .1) in rw (← q) (field-eq f 35 _ (p .0) (sym w), ((l, m), omega arith))
-      go (inr (inr (inr (inl p)))) = let (a, b, q, l, m, w) = two-form path-law path-law same (f .1) c h (p .1) in rw (← q) (field-eq f 36 _ (p .0) (sym w), ((l, m), omega arith))
+      go (inr (inl p)) = let (a, q, l, w) = one-form route-law exists (f .1) c h (p .1) in rw (← q) (field-eq f 34 _ (p .0) (sym w), (l, omega arith))
+      go (inr (inr (inl p))) = let (a, b, q, l, m, w) = two-form route-law arrayR-law equal (f .1) c h (p .1) in rw (← q) (field-eq f 35 _ (p .0) (sym w), ((l, m), omega arith))
+      go (inr (inr (inr (inl p)))) = let (a, b, q, l, m, w) = two-form route-law route-law same (f .1) c h (p .1) in rw (← q) (field-eq f 36 _ (p .0) (sym w), ((l, m), omega arith))
       go (inr (inr (inr (inr (inl p))))) = let (a, q, l, w) = one-form L negated (f .1) c h (p .1) in rw (← q) (field-eq f 37 _ (p .0) (sym w), (l .0, omega (arith, l .1)))
       go (inr (inr (inr (inr (inr (inl p)))))) = let (a, b, q, l, m, w) = two-form L L both (f .1) c h (p .1) in rw (← q) (field-eq f 38 _ (p .0) (sym w), ((l .0, m .0), omega (arith, l .1, m .1)))
       go (inr (inr (inr (inr (inr (inr (inl p))))))) = let (a, b, q, l, m, w) = two-form L L either (f .1) c h (p .1) in rw (← q) (field-eq f 39 _ (p .0) (sym w), ((l .0, m .0), omega (arith, l .1, m .1)))

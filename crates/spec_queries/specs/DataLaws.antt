@@ -21,7 +21,7 @@ use Rattle.spec_queries.specs.Query.{Criterion, Data, literal, path, lis
 use Rattle.spec_queries.specs.Bytes.{criterionF, divisorF, dataF, dataFs}
 use Rattle.spec_queries.specs.Decode.{criterionR, divisorR, dataR, dataTable}
 use Rattle.spec_queries.specs.Rules.{NestedC, nestD, nestDs, OkDs, NestedD}
-use Rattle.spec_queries.specs.CriterionLaws.{path-law, criterion-law}
+use Rattle.spec_queries.specs.CriterionLaws.{route-law, criterion-law}
 
 -- ---- divisors
 divisor-small : (n : ℕ) → T (isDivisor n) → n < 256 ^ 2
@@ -71,13 +71,13 @@ module _ (d : ℕ) (s : Reader Criterion) (M : Law s criterionF (NestedC d)) (r 
   data-back : (x : Data) → NestedD (suc d) x → among (dataTable s r) (dataF x) ≡ some x
   unfolding nestD dataF among chosen
   data-back (literal a) o = one-back arrayR-law literal a (o .0)
-  data-back (path p) o = one-back path-law path p (o .0)
+  data-back (path p) o = one-back route-law path p (o .0)
   data-back (listed ds) o =
       let q = many-back L (λ ds. listed (datas ds)) 1 membersMax (dataList ds) (all-in d ds (o .0 .0) (omega arith)) (o .0 .1) (o .0 .2) in
       rw (fs-map, datas-list) at q
   data-back (test c) o = one-back M test c (o .0, omega arith)
   data-back (choice c x y) o = three-back M L L choice c x y (o .0 .0, omega arith) (o .0 .1, omega arith) (o .0 .2, omega arith)
-  data-back (reduced p n) o = two-back path-law divisor-law reduced p n (o .0 .0) (o .0 .1)
+  data-back (reduced p n) o = two-back route-law divisor-law reduced p n (o .0 .0) (o .0 .1)
 
   data-form : (f : Field) (x : Data) → AllBytes (f .1) → among (dataTable s r) f ≡ some x → (dataF x ≡ f) × NestedD (suc d) x
   unfolding nestD dataF
@@ -85,7 +85,7 @@ module _ (d : ℕ) (s : Reader Criterion) (M : Law s criterionF (NestedC d)) (r 
     where
       go : OneOf (dataTable s r) f x → (dataF x ≡ f) × NestedD (suc d) x
       go (inl p) = let (a, q, l, w) = one-form arrayR-law literal (f .1) x h (p .1) in rw (← q) (field-eq f 40 _ (p .0) (sym w), (l, omega arith))
-      go (inr (inl p)) = let (a, q, l, w) = one-form path-law path (f .1) x h (p .1) in rw (← q) (field-eq f 41 _ (p .0) (sym w), (l, omega arith))
+      go (inr (inl p)) = let (a, q, l, w) = one-form route-law path (f .1) x h (p .1) in rw (← q) (field-eq f 41 _ (p .0) (sym w), (l, omega arith))
       go (inr (inr (inl p))) =
           let (xs, q, l, n, m, w) = many-form L (λ ds. listed (datas ds)) 1 membersMax (f .1) x h (p .1) in
           let k = all-out d xs l in
@@ -96,7 +96,7 @@ module _ (d : ℕ) (s : Reader Criterion) (M : Law s criterionF (NestedC d)) (r 
           let (a, b, c, q, l, m, n, w) = three-form M L L choice (f .1) x h (p .1) in
           rw (← q) (field-eq f 44 _ (p .0) (sym w), ((l .0, m .0, n .0), omega (arith, l .1, m .1, n .1)))
       go (inr (inr (inr (inr (inr (inl p)))))) =
-          let (a, b, q, l, m, w) = two-form path-law divisor-law reduced (f .1) x h (p .1) in
+          let (a, b, q, l, m, w) = two-form route-law divisor-law reduced (f .1) x h (p .1) in
           rw (← q) (field-eq f 45 _ (p .0) (sym w), ((l, m), omega arith))
       go (inr (inr (inr (inr (inr (inr p)))))) = absurd p
 

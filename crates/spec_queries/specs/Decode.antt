@@ -9,11 +9,14 @@ use Rattle.spec_trees.specs.Options.{only}
 use Rattle.spec_trees.specs.Limits.{queryMax, nestMax, stagesMax, itemsMax, membersMax, aggregatesMax, groupingMax}
 use Rattle.spec_trees.specs.Readers.{Reader, Table, inside, one, two, three, many, among, tagged, emptied, bigValue, Tested, tested}
 use Rattle.spec_trees.specs.Decode.{arrayR}
-use Rattle.spec_queries.specs.Query.{Path, Criterion, always, exists, equal, same, negated, both, either, Data, literal, path, listed, test, choice, reduced, datas, Item, keep, place, Pair, Stage, match, unwind, project, group, lookup, isPath, isDivisor}
+use Rattle.spec_queries.specs.Query.{Path, Route, Criterion, always, exists, equal, same, negated, both, either, Data, literal, path, listed, test, choice, reduced, datas, Item, keep, place, Pair, Stage, match, unwind, project, group, lookup, isPath, isDivisor}
 
 -- ---- paths
 unfoldable pub pathR : Reader Path
 pathR = tagged 32 (λ c. only (isPath c) (some c))
+
+abbrev pub routeR : Reader Route
+routeR = pathR
 
 -- a path not empty
 unfoldable pub pathR⁺ : Reader Path
@@ -23,9 +26,9 @@ pathR⁺ f = only (leb 1 (length (f .1))) (pathR f)
 abbrev pub criterionTable : Reader Criterion → Table Criterion
 criterionTable r =
     (33, emptied always)
-    ∷ (34, inside (one exists pathR))
-    ∷ (35, inside (two equal pathR arrayR))
-    ∷ (36, inside (two same pathR pathR))
+    ∷ (34, inside (one exists routeR))
+    ∷ (35, inside (two equal routeR arrayR))
+    ∷ (36, inside (two same routeR routeR))
     ∷ (37, inside (one negated r))
     ∷ (38, inside (two both r r))
     ∷ (39, inside (two either r r))
@@ -43,11 +46,11 @@ divisorR = tagged 46 (λ c. only (eqb (length c) 2) (only (isDivisor (bigValue c
 abbrev pub dataTable : Reader Criterion → Reader Data → Table Data
 dataTable s r =
     (40, inside (one literal arrayR))
-    ∷ (41, inside (one path pathR))
+    ∷ (41, inside (one path routeR))
     ∷ (42, inside (many (λ ds. listed (datas ds)) 1 membersMax r))
     ∷ (43, inside (one test s))
     ∷ (44, inside (three choice s r r))
-    ∷ (45, inside (two reduced pathR divisorR))
+    ∷ (45, inside (two reduced routeR divisorR))
     ∷ []
 
 -- where criteria and data may nest d deep, this one included
@@ -65,11 +68,11 @@ itemTable =
 unfoldable pub itemR : Reader Item
 itemR = among itemTable
 
-abbrev pub pairOf : Path → Path → Pair
+abbrev pub pairOf : Route → Path → Pair
 pairOf p q = record { source = p; target = q }
 
 unfoldable pub pairR : Reader Pair
-pairR = tagged 49 (inside (two pairOf pathR pathR⁺))
+pairR = tagged 49 (inside (two pairOf routeR pathR⁺))
 
 unfoldable pub pairsR : ℕ → ℕ → Reader (List Pair)
 pairsR k n = tagged k (inside (many (λ ps. ps) 0 n pairR))
@@ -81,7 +84,7 @@ stageTable =
     ∷ (18, inside (one unwind pathR))
     ∷ (19, inside (many project 1 itemsMax itemR))
     ∷ (20, inside (two group (pairsR 50 aggregatesMax) (pairsR 51 groupingMax)))
-    ∷ (21, inside (three lookup pathR pathR pathR⁺))
+    ∷ (21, inside (three lookup routeR routeR pathR⁺))
     ∷ []
 
 unfoldable pub stageR : Reader Stage

@@ -4,6 +4,7 @@ pub mod Bytes
 pub mod Decode
 pub mod Rules
 -- Laws.
+pub mod PathLaws
 pub mod CriterionLaws
 pub mod DataLaws
 pub mod QueryLaws

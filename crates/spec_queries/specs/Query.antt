@@ -8,9 +8,13 @@ use Rattle.spec_trees.specs.Limits.{pathMax, divisorMax}
 use Rattle.spec_trees.specs.Lists.{all}
 use Rattle.spec_trees.specs.Tree.{Tree, isLabel}
 
--- labels, the outermost first
+-- labels, the outermost first: a path that is unwound, kept or placed at
 abbrev pub Path : Type 0
 Path = List ℕ
+
+-- a path that is applied: in criteria and data, the source of a pair, a lookup's q and r. The two are the same for now
+abbrev pub Route : Type 0
+Route = Path
 
 -- 0 to 8 labels
 unfoldable pub isPath : List ℕ → Bool
@@ -23,9 +27,9 @@ isDivisor n = leb 1 n && leb n divisorMax
 pub data Criterion : Type 0 where
   -- document 01 calls it true
   always : Criterion
-  exists : Path → Criterion
-  equal : Path → List Tree → Criterion
-  same : Path → Path → Criterion
+  exists : Route → Criterion
+  equal : Route → List Tree → Criterion
+  same : Route → Route → Criterion
   -- not, and, or
   negated : Criterion → Criterion
   both : Criterion → Criterion → Criterion
@@ -34,12 +38,12 @@ pub data Criterion : Type 0 where
 mutual
   pub data Data : Type 0 where
     literal : List Tree → Data
-    path : Path → Data
+    path : Route → Data
     listed : Datas → Data
     test : Criterion → Data
     choice : Criterion → Data → Data → Data
     -- a path and a divisor
-    reduced : Path → ℕ → Data
+    reduced : Route → ℕ → Data
 
   -- the members of a list
   pub data Datas : Type 0 where
@@ -61,7 +65,7 @@ pub data Item : Type 0 where
 
 -- a pair of a group: where its values come from, and where they are placed (document 01's destination path)
 pub record Pair : Type 0 where
-  pub source : Path
+  pub source : Route
   pub target : Path
 
 pub data Stage : Type 0 where
@@ -71,4 +75,4 @@ pub data Stage : Type 0 where
   -- aggregates, grouping
   group : List Pair → List Pair → Stage
   -- q, r, p: where the joined trees whose r equals the tree's q are placed
-  lookup : Path → Path → Path → Stage
+  lookup : Route → Route → Path → Stage

@@ -18,9 +18,9 @@ use Rattle.spec_trees.specs.FieldLaws.{bytes-one}
 use Rattle.spec_trees.specs.ReaderLaws.{Law, field-eq, OneOf, among-some, tagged-some, one-back, one-form, two-back, two-form, three-back, three-form, many-back, many-form, tested-only, tested-overlong, malformed-form}
 use Rattle.spec_queries.specs.Query.{Item, keep, place, Stage, match, unwind, project, group, lookup}
 use Rattle.spec_queries.specs.Bytes.{itemF, pairF, pairsF, stageF, queryF, queryBytes}
-use Rattle.spec_queries.specs.Decode.{pathR, pathR⁺, itemTable, itemR, pairOf, pairR, pairsR, stageTable, stageR, queryR, decodeQuery, readQuery}
+use Rattle.spec_queries.specs.Decode.{pathR⁺, routeR, itemTable, itemR, pairOf, pairR, pairsR, stageTable, stageR, queryR, decodeQuery, readQuery}
 use Rattle.spec_queries.specs.Rules.{OkI, OkPair, OkPairs, OkS, OkQ}
-use Rattle.spec_queries.specs.CriterionLaws.{path-law, path⁺-law, criterion-law}
+use Rattle.spec_queries.specs.CriterionLaws.{path-law, path⁺-law, route-law, criterion-law}
 use Rattle.spec_queries.specs.DataLaws.{data-law}
 
 item-back : (x : Item) → OkI x → itemR (itemF x) ≡ some x
@@ -40,10 +40,10 @@ item-law = record { back = item-back; form = λ f x h e. go f x h (among-some it
 pair-law : Law pairR pairF OkPair
 unfolding pairR pairF tagged only
 pair-law = record {
-  back = λ p o. two-back path-law path⁺-law pairOf (p .source) (p .target) (o .0) (o .1);
+  back = λ p o. two-back route-law path⁺-law pairOf (p .source) (p .target) (o .0) (o .1);
   form = λ f x h e.
-      let u = tagged-some 49 (inside (two pairOf pathR pathR⁺)) f x e in
-      let (a, b, q, l, m, w) = two-form path-law path⁺-law pairOf (f .1) x h (u .1) in
+      let u = tagged-some 49 (inside (two pairOf routeR pathR⁺)) f x e in
+      let (a, b, q, l, m, w) = two-form route-law path⁺-law pairOf (f .1) x h (u .1) in
       rw (← q) (field-eq f 49 _ (u .0) (sym w), (l, m));
 }
 
@@ -63,7 +63,7 @@ stage-back (match c) o = one-back (criterion-law nestMax) match c o
 stage-back (unwind p) o = one-back path-law unwind p o
 stage-back (project is) o = many-back item-law project 1 itemsMax is (o .0) (o .1) (o .2)
 stage-back (group ag gs) o = two-back (pairs-law 50 aggregatesMax) (pairs-law 51 groupingMax) group ag gs (o .0) (o .1)
-stage-back (lookup q r p) o = three-back path-law path-law path⁺-law lookup q r p (o .0) (o .1) (o .2)
+stage-back (lookup q r p) o = three-back route-law route-law path⁺-law lookup q r p (o .0) (o .1) (o .2)
 
 stage-law : Law stageR stageF OkS
 unfolding stageR stageF
@@ -74,7 +74,7 @@ stage-law = record { back = stage-back; form = λ f x h e. go f x h (among-some 
     go f x h (inr (inl p)) = let (a, q, l, w) = one-form path-law unwind (f .1) x h (p .1) in rw (← q) (field-eq f 18 _ (p .0) (sym w), l)
     go f x h (inr (inr (inl p))) = let (xs, q, l, a, b, w) = many-form item-law project 1 itemsMax (f .1) x h (p .1) in rw (← q) (field-eq f 19 _ (p .0) (sym w), (l, a, b))
     go f x h (inr (inr (inr (inl p)))) = let (a, b, q, l, m, w) = two-form (pairs-law 50 aggregatesMax) (pairs-law 51 groupingMax) group (f .1) x h (p .1) in rw (← q) (field-eq f 20 _ (p .0) (sym w), (l, m))
-    go f x h (inr (inr (inr (inr (inl p))))) = let (a, b, c, q, l, m, n, w) = three-form path-law path-law path⁺-law lookup (f .1) x h (p .1) in rw (← q) (field-eq f 21 _ (p .0) (sym w), (l, m, n))
+    go f x h (inr (inr (inr (inr (inl p))))) = let (a, b, c, q, l, m, n, w) = three-form route-law route-law path⁺-law lookup (f .1) x h (p .1) in rw (← q) (field-eq f 21 _ (p .0) (sym w), (l, m, n))
     go f x h (inr (inr (inr (inr (inr p))))) = absurd p
 
 query-law : Law queryR queryF (λ ss. All OkS ss × (length ss ≤ stagesMax))

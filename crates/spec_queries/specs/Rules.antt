@@ -6,12 +6,15 @@ use lib.Dec.{T}
 use Rattle.spec_trees.specs.Lists.{All}
 use Rattle.spec_trees.specs.Limits.{queryMax, nestMax, stagesMax, itemsMax, membersMax, aggregatesMax, groupingMax}
 use Rattle.spec_trees.specs.Within.{AllowedA}
-use Rattle.spec_queries.specs.Query.{Path, Criterion, always, exists, equal, same, negated, both, either, Data, literal, path, listed, test, choice, reduced, Datas, ended, more, dataList, Item, keep, place, Pair, Stage, match, unwind, project, group, lookup, isPath, isDivisor}
+use Rattle.spec_queries.specs.Query.{Path, Route, Criterion, always, exists, equal, same, negated, both, either, Data, literal, path, listed, test, choice, reduced, Datas, ended, more, dataList, Item, keep, place, Pair, Stage, match, unwind, project, group, lookup, isPath, isDivisor}
 use Rattle.spec_queries.specs.Bytes.{queryBytes}
 
 -- ---- paths
 abbrev pub OkP : Path → Type 0
 OkP p = T (isPath p)
+
+abbrev pub OkRoute : Route → Type 0
+OkRoute p = OkP p
 
 -- not empty
 abbrev pub OkP⁺ : Path → Type 0
@@ -29,9 +32,9 @@ nestC (either c d) = suc (max (nestC c) (nestC d))
 
 abbrev pub OkC : Criterion → Type 0
 OkC always = Unit {0}
-OkC (exists p) = OkP p
-OkC (equal p a) = OkP p × AllowedA a
-OkC (same p q) = OkP p × OkP q
+OkC (exists p) = OkRoute p
+OkC (equal p a) = OkRoute p × AllowedA a
+OkC (same p q) = OkRoute p × OkRoute q
 OkC (negated c) = OkC c
 OkC (both c d) = OkC c × OkC d
 OkC (either c d) = OkC c × OkC d
@@ -53,11 +56,11 @@ unfoldable mutual
 abbrev mutual
   pub OkD : Data → Type 0
   OkD (literal a) = AllowedA a
-  OkD (path p) = OkP p
+  OkD (path p) = OkRoute p
   OkD (listed ds) = OkDs ds × (1 ≤ length (dataList ds)) × (length (dataList ds) ≤ membersMax)
   OkD (test c) = OkC c
   OkD (choice c d e) = OkC c × OkD d × OkD e
-  OkD (reduced p n) = OkP p × T (isDivisor n)
+  OkD (reduced p n) = OkRoute p × T (isDivisor n)
 
   pub OkDs : Datas → Type 0
   OkDs ended = Unit {0}
@@ -76,7 +79,7 @@ OkI (keep p) = OkP p
 OkI (place d p) = NestedD nestMax d × OkP⁺ p
 
 abbrev pub OkPair : Pair → Type 0
-OkPair p = OkP (p .source) × OkP⁺ (p .target)
+OkPair p = OkRoute (p .source) × OkP⁺ (p .target)
 
 abbrev pub OkPairs : ℕ → List Pair → Type 0
 OkPairs n ps = All OkPair ps × (length ps ≤ n)
@@ -86,7 +89,7 @@ OkS (match c) = NestedC nestMax c
 OkS (unwind p) = OkP p
 OkS (project is) = All OkI is × (1 ≤ length is) × (length is ≤ itemsMax)
 OkS (group ag gs) = OkPairs aggregatesMax ag × OkPairs groupingMax gs
-OkS (lookup q r p) = OkP q × OkP r × OkP⁺ p
+OkS (lookup q r p) = OkRoute q × OkRoute r × OkP⁺ p
 
 -- a query that these rules allow
 pub record OkQ (ss : List Stage) : Type 0 where

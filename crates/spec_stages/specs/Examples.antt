@@ -13,7 +13,7 @@ use Rattle.spec_trees.specs.Examples.{int, #, ⟨_⟩, _⇒_⨾_, decoded}
 use Rattle.spec_queries.specs.Query.{exists, equal, Stage, unwind, group, lookup}
 use Rattle.spec_queries.specs.Decode.{pairOf}
 use Rattle.spec_queries.specs.Examples.{admitted}
-use Rattle.spec_stages.specs.Paths.{present, join, joins, over, apply}
+use Rattle.spec_stages.specs.Paths.{present, join, joins, over, reached, apply}
 use Rattle.spec_stages.specs.DecisionLaws.{int?, bytes?, trees?, array?, given?}
 use Rattle.spec_stages.specs.Equality.{sameGiven}
 use Rattle.spec_stages.specs.Criteria.{holds}
@@ -27,7 +27,7 @@ use Rattle.spec_stages.specs.Stages.{performed, leaving, isGroup, State,
 
 -- under this name all definitions of the crate and of those below compute: joined trees, stages, input trees
 unfoldable abbrev pub ran : List Tree → List Stage → List Tree → State
-unfolding decoded admitted present join joins over apply int? bytes? trees? array? given? sameGiven decide holds nearest reducedInt reducedRoot reducedTree value mergeRoot merge build holding unwound kept placeAt placed item projected key sameKey alike sum having classes upto grouped aggregated identified sourced classTree matches partners looked performed leaving isGroup after step stages
+unfolding decoded admitted present join joins over reached apply int? bytes? trees? array? given? sameGiven decide holds nearest reducedInt reducedRoot reducedTree value mergeRoot merge build holding unwound kept placeAt placed item projected key sameKey alike sum having classes upto grouped aggregated identified sourced classTree matches partners looked performed leaving isGroup after step stages
 ran joined ss ts = stages joined ss (going ts)
 
 -- what an example gives

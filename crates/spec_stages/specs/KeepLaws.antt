@@ -19,9 +19,10 @@ use Rattle.spec_trees.specs.Size.{size, depth, fits, arraySize}
 use Rattle.spec_trees.specs.Within.{OkR, Ok, OkA, OkL, Allowed, AllowedA}
 use Rattle.spec_trees.specs.OptionLaws.{true-T, false-T, T-and, cond-cases}
 use Rattle.spec_trees.specs.ListLaws.{All-append, All-filter, All-map, All-gather, All-imply}
-use Rattle.spec_queries.specs.Query.{Path, Data, literal, path, listed, test, choice, reduced, Datas, ended, more, Item, keep, place, Pair, Stage, match, unwind, project, group, lookup, isPath, isDivisor}
+use Rattle.spec_queries.specs.Query.{Path, Route, Data, literal, path, listed, test, choice, reduced, Datas, ended, more, Item, keep, place, Pair, Stage, match, unwind, project, group, lookup, isDivisor}
 use Rattle.spec_queries.specs.Rules.{OkP, OkD, OkDs, OkI, OkPair, OkS}
-use Rattle.spec_stages.specs.Paths.{Given, join, joins, over, apply}
+use Rattle.spec_queries.specs.PathLaws.{path-labels}
+use Rattle.spec_stages.specs.Paths.{Given, join, joins, over, reached, apply}
 use Rattle.spec_stages.specs.Criteria.{holds}
 use Rattle.spec_stages.specs.Data.{nearest, reducedInt, reducedRoot, reducedTree, value, values}
 use Rattle.spec_stages.specs.Merge.{mergeRoot, merge, mergeA, mergeL, build}
@@ -143,10 +144,14 @@ unfolding over
 over-ok f h [] o = tt
 over-ok f h (t ∷ ts) o = joins-ok (map f (t ∷ ts)) (All-map Ok OkF f h (t ∷ ts) o)
 
-pub apply-ok : (p : Path) (t : Tree) → Ok t → OkF (apply p t)
+reached-ok : (k : ℕ) (t : Tree) → Ok t → OkF (reached k t)
+unfolding reached
+reached-ok k t o = under-ok k t o
+
+pub apply-ok : (p : Route) (t : Tree) → Ok t → OkF (apply p t)
 unfolding apply
 apply-ok [] t o = (o, tt)
-apply-ok (k ∷ p) t o = bind-ok _ (find k (labels t)) (under-ok k t o) (λ a q. over-ok (apply p) (apply-ok p) a q)
+apply-ok (k ∷ p) t o = bind-ok _ (reached k t) (reached-ok k t o) (λ a q. over-ok (apply p) (apply-ok p) a q)
 
 -- ---- writing along a path
 abbrev pub Labelled : Path → Type 0
@@ -158,8 +163,7 @@ all-labels [] h = tt
 all-labels (k ∷ p) h = let a = T-and (isLabel k) (all isLabel p) h in (a .0, all-labels p (a .1))
 
 pub labelled : (p : Path) → OkP p → Labelled p
-unfolding isPath
-labelled p h = all-labels p (T-and (leb (length p) pathMax) (all isLabel p) h .1)
+labelled p h = all-labels p (path-labels p h)
 
 holding-ok : (k : ℕ) → T (isLabel k) → (t : Tree) → Ok t → (u : Tree) → Ok u → Ok (holding k t u)
 unfolding holding
@@ -291,11 +295,11 @@ unfolding projected
 projected-ok is g t o = build-ok bareVoid (map (item t) is) (tt, tt) (All-map OkI Ok (item t) (item-ok t o) is g)
 
 -- the part that a lookup adds
-pub partners-ok : (q r p : Path) (joined : List Tree) → OkP p → All Ok joined → (t : Tree) → Ok (placeAt p (partners q r joined t))
+pub partners-ok : (q r : Route) (p : Path) (joined : List Tree) → OkP p → All Ok joined → (t : Tree) → Ok (placeAt p (partners q r joined t))
 unfolding partners
 partners-ok q r p joined g j t = placeAt-ok p (labelled p g) (partners q r joined t) (All-filter Ok (matches q r t) joined j)
 
-looked-ok : (q r p : Path) (joined : List Tree) → OkP p → OkTs joined → (t : Tree) → Ok t → OkO (looked q r p joined t)
+looked-ok : (q r : Route) (p : Path) (joined : List Tree) → OkP p → OkTs joined → (t : Tree) → Ok t → OkO (looked q r p joined t)
 unfolding looked
 looked-ok q r p joined g j t o = build-ok t (placeAt p (partners q r joined t) ∷ []) o (partners-ok q r p joined g j t, tt)
 

@@ -12,7 +12,7 @@ use Rattle.spec_trees.specs.Lists.{All, filter, all, each}
 use Rattle.spec_trees.specs.Tree.{Tree, bareVoid}
 use Rattle.spec_trees.specs.Size.{arraySize, fits}
 use Rattle.spec_trees.specs.Within.{Allowed, AllowedA}
-use Rattle.spec_queries.specs.Query.{Path, Item, Pair, Stage, group}
+use Rattle.spec_queries.specs.Query.{Path, Route, Item, Pair, Stage, group}
 use Rattle.spec_stages.specs.Merge.{build}
 use Rattle.spec_stages.specs.Project.{item, projected}
 use Rattle.spec_stages.specs.Lookup.{looked}
@@ -49,7 +49,7 @@ pub projected-leave : (is : List Item) (ts : List Tree) → leaving (each (proje
 unfolding projected
 projected-leave is ts = made-fits (λ t. map (item t) is) ts
 
-pub looked-leave : (q r p : Path) (us ts : List Tree) → AllowedA ts → leaving (each (looked q r p us) ts) ≡ each (looked q r p us) ts
+pub looked-leave : (q r : Route) (p : Path) (us ts : List Tree) → AllowedA ts → leaving (each (looked q r p us) ts) ≡ each (looked q r p us) ts
 unfolding looked
 looked-leave q r p us ts a = each-fits (Allowed depthMax) (looked q r p us) (λ t y h e. build-fits t _ (fits-of h) e) ts a
 

@@ -2,9 +2,10 @@
 use mathlib.Core.List.{List, [], _∷_, _++_, map}
 use mathlib.Core.Bool.{Bool, true, false}
 use mathlib.Core.Option.{Option, none, some}
+use Prim.Native.Nat.{ℕ}
 use Rattle.spec_trees.specs.Options.{_>>=_}
 use Rattle.spec_trees.specs.Tree.{Tree, labels, find}
-use Rattle.spec_queries.specs.Query.{Path}
+use Rattle.spec_queries.specs.Query.{Route}
 
 abbrev pub Given : Type 0
 Given = Option (List Tree)
@@ -32,8 +33,12 @@ unfoldable pub over : (Tree → Given) → List Tree → Given
 over f [] = some []
 over f (t ∷ ts) = joins (map f (t ∷ ts))
 
--- the empty path gives the array of the tree alone; k.p gives absent if the tree lacks k, else p is applied to each
--- tree under k
-unfoldable pub apply : Path → Tree → Given
+-- what a step k reaches: the trees under k; absent if the tree lacks k
+unfoldable pub reached : ℕ → Tree → Given
+reached k t = find k (labels t)
+
+-- the empty path gives the array of the tree alone; k.p gives absent if that is what k reaches, else p is applied to
+-- each tree that k reaches
+unfoldable pub apply : Route → Tree → Given
 apply [] t = some (t ∷ [])
-apply (k ∷ p) t = find k (labels t) >>= over (apply p)
+apply (k ∷ p) t = reached k t >>= over (apply p)

@@ -13,7 +13,7 @@ use Rattle.spec_trees.specs.Tree.{Tree, node, Trees, ε, _▹_, Labels, bare, l
 use Rattle.spec_trees.specs.Size.{size, depth, depthL, sizeL, rootSize, fits}
 use Rattle.spec_trees.specs.Within.{Ok, OkL, Allowed, AllowedA}
 use Rattle.spec_trees.specs.SizeLaws.{trees-list}
-use Rattle.spec_queries.specs.Query.{Path, Criterion, Item, Stage, match, unwind, project, lookup}
+use Rattle.spec_queries.specs.Query.{Path, Route, Criterion, Item, Stage, match, unwind, project, lookup}
 use Rattle.spec_queries.specs.Rules.{OkS}
 use Rattle.spec_stages.specs.Criteria.{holds}
 use Rattle.spec_stages.specs.Merge.{merge, build}
@@ -22,7 +22,8 @@ use Rattle.spec_stages.specs.Project.{projected}
 use Rattle.spec_stages.specs.Lookup.{looked}
 use Rattle.spec_stages.specs.Stages.{performed, leaving, isGroup, going, large, after, step, stages}
 use Rattle.spec_stages.specs.KeepLaws.{stages-allowed}
-use Rattle.spec_stages.specs.UnwoundLaws.{put-first, put-later, found-cases, unwound-leaves, unwound-one}
+use Rattle.spec_trees.specs.FindLaws.{put-first, put-later, found-cases}
+use Rattle.spec_stages.specs.UnwoundLaws.{unwound-leaves, unwound-one}
 
 pub fits-of : {x : Tree} → Allowed depthMax x → fits x ≡ true
 unfolding fits
@@ -93,10 +94,10 @@ unfolding step isGroup performed after
 project-none us is x e = ap after (none-leaves (projected is) x e)
 
 -- ---- lookup
-pub step-lookup : (us : List Tree) (q r p : Path) (x : Tree) {y : Tree} → Allowed depthMax x → looked q r p us x ≡ some y → step us (lookup q r p) (going (x ∷ [])) ≡ going (y ∷ [])
+pub step-lookup : (us : List Tree) (q r : Route) (p : Path) (x : Tree) {y : Tree} → Allowed depthMax x → looked q r p us x ≡ some y → step us (lookup q r p) (going (x ∷ [])) ≡ going (y ∷ [])
 unfolding step isGroup performed after looked
 step-lookup us q r p x h e = ap after (one-leaves (looked q r p us) x e (build-fits x _ (fits-of h) e))
 
-pub lookup-none : (us : List Tree) (q r p : Path) (x : Tree) → looked q r p us x ≡ none → step us (lookup q r p) (going (x ∷ [])) ≡ large
+pub lookup-none : (us : List Tree) (q r : Route) (p : Path) (x : Tree) → looked q r p us x ≡ none → step us (lookup q r p) (going (x ∷ [])) ≡ large
 unfolding step isGroup performed after
 lookup-none us q r p x e = ap after (none-leaves (looked q r p us) x e)

@@ -11,80 +11,38 @@ use native.Mathlib.Omega.{arith}
 use lib.ListN.{length, drop, getD, length-append, drop-of-length-le}
 use lib.Seq.{drop-cons}
 use lib.Dec.{eqb}
-use borrow.Author.Tests.{eq-eqb, ne-eqb, eqb-true, eqb-false, le-leb}
+use borrow.Author.Tests.{eqb-true, eqb-false, le-leb}
 use Rattle.spec_trees.specs.Options.{maybe}
 use Rattle.spec_trees.specs.Lists.{All, all, gather}
 use Rattle.spec_trees.specs.Limits.{treeMax, depthMax}
 use Rattle.spec_trees.specs.Tree.{Tree, node, Trees, ε, _▹_, Labels, bare, label, list, trees, labels, find, put}
+use Rattle.spec_trees.specs.Bytes.{labelHeads}
 use Rattle.spec_trees.specs.Size.{size, sizeA, sizeL, depth, depthA, depthL, fits}
 use Rattle.spec_trees.specs.Within.{Ok, OkA, OkL, Allowed, AllowedA}
-use Rattle.spec_trees.specs.OptionLaws.{ltb-no, some-equal}
+use Rattle.spec_trees.specs.OptionLaws.{some-equal}
 use Rattle.spec_trees.specs.ListLaws.{All-imply, All-map, All-gather}
 use Rattle.spec_trees.specs.SizeLaws.{trees-list}
+use Rattle.spec_trees.specs.FindLaws.{no-label, find-first, find-later, put-first, put-later, found-cases, found-ok}
 use Rattle.spec_queries.specs.Query.{Path, unwind}
 use Rattle.spec_queries.specs.Rules.{OkP}
 use Rattle.spec_stages.specs.Unwind.{holding, unwound}
 use Rattle.spec_stages.specs.Stages.{performed, leaving, isGroup, after, step, stages}
 use Rattle.spec_stages.specs.KeepLaws.{stages-allowed}
 
--- ---- labels that are searched, and put in the place of what stood there
-pub find-first : (k j : ℕ) (a : Trees) (ls : Labels) → k ≡ j → find k (label j a ls) ≡ some (list a)
-unfolding find
-find-first k j a ls q = rw (eq-eqb k j q) refl
-
-pub find-later : (k j : ℕ) (a : Trees) (ls : Labels) → (k ≡ j → ⊥) → find k (label j a ls) ≡ find k ls
-unfolding find
-find-later k j a ls q = rw (ne-eqb k j q) refl
-
-pub put-first : (k j : ℕ) (b a : Trees) (ls : Labels) → k ≡ j → put k b (label j a ls) ≡ label k b ls
-unfolding put
-put-first k j b a ls q = rw (ltb-no k j (omega arith), eq-eqb k j q) refl
-
-pub put-later : (k j : ℕ) (b a : Trees) (ls : Labels) → j < k → put k b (label j a ls) ≡ label j a (put k b ls)
-unfolding put
-put-later k j b a ls q = let n : k ≡ j → ⊥ = λ z. omega arith in rw (ltb-no k j (omega arith), ne-eqb k j n) refl
-
-no-label : (k : ℕ) (a : List Tree) → find k bare ≡ some a → ⊥
-unfolding find
-no-label k a e = let z : _≡_ {A = ℕ} 0 1 = cc in omega arith
-
--- a label that is found among rising labels: here, or later, and then it is above the first
+-- ---- an array put in the place of another
 module _ (k : ℕ) (a : List Tree) where
-  pub find-above : (ls : Labels) (m : ℕ) → OkL ls m → find k ls ≡ some a → m < k
-  find-above bare m o e = absurd (no-label k a e)
-  find-above (label j c ls) m o e = go (eqb k j) refl (find-above ls j (o .3))
-    where
-      go : (x : Bool) → eqb k j ≡ x → (find k ls ≡ some a → j < k) → m < k
-      go true q r = omega (arith, eqb-true k j q, o .0)
-      go false q r = omega (arith, o .0, r (sym (find-later k j c ls (eqb-false k j q)) ∙ e))
-
-  pub found-cases : {P : Type 0} (j : ℕ) (c : Trees) (ls : Labels) (m : ℕ) → OkL (label j c ls) m → find k (label j c ls) ≡ some a
-      → (k ≡ j → list c ≡ a → P) → (j < k → find k ls ≡ some a → P) → P
-  found-cases {P} j c ls m o e f g = go (eqb k j) refl
-    where
-      go : (x : Bool) → eqb k j ≡ x → P
-      go true q = f (eqb-true k j q) (some-equal (list c) a (sym (find-first k j c ls (eqb-true k j q)) ∙ e))
-      go false q = let z : find k ls ≡ some a = sym (find-later k j c ls (eqb-false k j q)) ∙ e in g (find-above ls j (o .3) z) z
-
-  -- the trees under it are well formed
-  pub found-ok : (ls : Labels) (m : ℕ) → OkL ls m → find k ls ≡ some a → OkA (trees a)
-  found-ok bare m o e = absurd (no-label k a e)
-  found-ok (label j c ls) m o e = found-cases j c ls m o e
-      (λ q z. subst (λ l. OkA l) (sym (trees-list c) ∙ ap trees z) (o .2))
-      (λ q z. found-ok ls j (o .3) z)
-
   -- an array that is no larger, put in its place, makes the labels no larger; and so for depth
   put-size : (b : Trees) (ls : Labels) (m : ℕ) → OkL ls m → find k ls ≡ some a → sizeA b ≤ sizeA (trees a) → sizeL (put k b ls) ≤ sizeL ls
   unfolding size
   put-size b bare m o e h = absurd (no-label k a e)
-  put-size b (label j c ls) m o e h = found-cases j c ls m o e
-      (λ q z. omega (arith, ap sizeL (put-first k j b c ls q), ap sizeA (sym (trees-list c) ∙ ap trees z)))
+  put-size b (label j c ls) m o e h = found-cases k a j c ls m o e
+      (λ q z. omega (arith, ap sizeL (put-first k j b c ls q), ap labelHeads q, ap sizeA (sym (trees-list c) ∙ ap trees z)))
       (λ q z. omega (arith, ap sizeL (put-later k j b c ls q), put-size b ls j (o .3) z h))
 
   put-depth : (b : Trees) (ls : Labels) (m : ℕ) → OkL ls m → find k ls ≡ some a → depthA b ≤ depthA (trees a) → depthL (put k b ls) ≤ depthL ls
   unfolding depth
   put-depth b bare m o e h = absurd (no-label k a e)
-  put-depth b (label j c ls) m o e h = found-cases j c ls m o e
+  put-depth b (label j c ls) m o e h = found-cases k a j c ls m o e
       (λ q z. omega (arith, ap depthL (put-first k j b c ls q), ap depthA (sym (trees-list c) ∙ ap trees z)))
       (λ q z. omega (arith, ap depthL (put-later k j b c ls q), put-depth b ls j (o .3) z h))
 
@@ -94,7 +52,7 @@ unfolding size
 find-size k a bare e = absurd (no-label k a e)
 find-size k a (label j c ls) e = go (eqb k j) refl (find-size k a ls)
   where
-    go : (x : Bool) → eqb k j ≡ x → (find k ls ≡ some a → sizeA (trees a) ≤ sizeL ls) → sizeA (trees a) ≤ 7 + sizeA c + sizeL ls
+    go : (x : Bool) → eqb k j ≡ x → (find k ls ≡ some a → sizeA (trees a) ≤ sizeL ls) → sizeA (trees a) ≤ sizeL (label j c ls)
     go true q r = omega (arith, ap sizeA (sym (trees-list c) ∙ ap trees (some-equal (list c) a (sym (find-first k j c ls (eqb-true k j q)) ∙ e))))
     go false q r = omega (arith, r (sym (find-later k j c ls (eqb-false k j q)) ∙ e))
 

@@ -14,7 +14,7 @@ use Rattle.spec_trees.specs.Lists.{All, each}
 use Rattle.spec_trees.specs.Limits.{arrayMax, treeMax, depthMax, textMax}
 use Rattle.spec_trees.specs.Tree.{Root, void, boolean, integer, text, Tree, node, Trees, ε, _▹_, Labels, bare, label, list, isLabel}
 use Rattle.spec_trees.specs.Size.{depth, depthA, depthL, size, sizeA, sizeL, arraySize}
-use Rattle.spec_trees.specs.Bytes.{Field, fieldBytes, bytes, big, rootF, treeF, treeFs, labelFs, arrayF, arrayBytes}
+use Rattle.spec_trees.specs.Bytes.{labelF, labelHeads, labelOf, Field, fieldBytes, bytes, big, rootF, treeF, treeFs, labelFs, arrayF, arrayBytes}
 use Rattle.spec_trees.specs.Readers.{Reader, fields, inside, one, chosen, among, tagged, emptied, bigValue, accepted, malformed, overlong}
 use Rattle.spec_trees.specs.Decode.{signed, bit, rootTable, rootR, arrayWith, labelC, labelR, labelsWith, treeC, treeR, arrayR, decodeArray, readArray}
 use Rattle.spec_trees.specs.Within.{AllBytes, OkR, Ok, OkA, OkL, Allowed, AllowedA, Within}
@@ -66,8 +66,9 @@ root-law : Law rootR rootF OkR
 root-law = record { back = root-back; form = root-form }
 
 -- ---- arrays and labels over any reader of trees
-labelF : ℕ × List Tree → Field
-labelF l = (7, l .0 ∷ fieldBytes (arrayF (l .1)))
+entryF : ℕ × List Tree → Field
+unfolding labelF labelHeads labelOf arrayF
+entryF l = labelF (l .0) (arrayF (l .1) .1)
 
 -- labels above k, whose trees P allows
 abbrev Above : (Tree → Type 0) → ℕ → Labels → Type 0
@@ -85,8 +86,8 @@ module _ {P : Tree → Type 0} {r : Reader Tree} (L : Law r treeF P) where
         (field-eq f 1 _ (u .0) (sym (rw treeFs-map (w .1))), w .0);
   }
 
-  label-back : (l : ℕ × List Tree) → T (isLabel (l .0)) × All P (l .1) → labelR r (labelF l) ≡ some l
-  unfolding labelF labelR labelC tagged only
+  label-back : (l : ℕ × List Tree) → T (isLabel (l .0)) × All P (l .1) → labelR r (entryF l) ≡ some l
+  unfolding entryF labelF labelHeads labelOf labelR labelC tagged only
   label-back l o = rw (T-true (isLabel (l .0)) (o .0), ← bytes-one (arrayF (l .1))) (one-back array-law (λ a. (l .0, a)) (l .1) (o .1))
 
   content-form : (c : List ℕ) (l : ℕ × List Tree) → AllBytes c → labelC r c ≡ some l
@@ -98,15 +99,15 @@ module _ {P : Tree → Type 0} {r : Reader Tree} (L : Law r treeF P) where
       let (a, q, p, w) = one-form array-law (λ a. (k, a)) b l (h .1) (o .1) in
       rw (← q) (ap (λ x. k ∷ x) (sym w ∙ bytes-one (arrayF a)), o .0, p)
 
-  label-form : (f : Field) (l : ℕ × List Tree) → AllBytes (f .1) → labelR r f ≡ some l → (labelF l ≡ f) × (T (isLabel (l .0)) × All P (l .1))
-  unfolding labelF labelR
+  label-form : (f : Field) (l : ℕ × List Tree) → AllBytes (f .1) → labelR r f ≡ some l → (entryF l ≡ f) × (T (isLabel (l .0)) × All P (l .1))
+  unfolding entryF labelF labelHeads labelOf labelR
   label-form f l h e =
       let u = tagged-some 7 (labelC r) f l e in
       let w = content-form (f .1) l h (u .1) in
       (field-eq f 7 _ (u .0) (w .0), (w .1, w .2))
 
   labels-back : (ls : Labels) (k : ℕ) → Above P k ls → labelsWith r k (labelFs ls) ≡ some ls
-  unfolding labelsWith treeF _>>=_ only labelF arrayF
+  unfolding labelsWith treeF _>>=_ only entryF labelF labelHeads labelOf arrayF
   labels-back bare k o = refl
   labels-back (label j a ls) k o =
       let e = label-back (j, list a) (o .1, o .2) in
@@ -114,7 +115,7 @@ module _ {P : Tree → Type 0} {r : Reader Tree} (L : Law r treeF P) where
       rw (e′, ltb-yes k j (o .0), labels-back ls j (o .3), trees-list) refl
 
   labels-form : (fs : List Field) (k : ℕ) (ls : Labels) → BytesF fs → labelsWith r k fs ≡ some ls → (labelFs ls ≡ fs) × Above P k ls
-  unfolding labelsWith treeF labelF arrayF
+  unfolding labelsWith treeF entryF labelF labelHeads labelOf arrayF
   labels-form [] k ls h e = let q : bare ≡ ls = cc in rw (← q) (refl, tt)
   labels-form (f ∷ fs) k ls h e =
       let (l, e1, e2) = bind-some _ (labelR r f) e in

@@ -40,6 +40,22 @@ rootF (boolean b) = (4, cond b 1 0 ∷ [])
 rootF (integer z) = (5, big 8 (pattern z))
 rootF (text s) = (6, s)
 
+-- ---- a label's field
+
+-- how many bytes stand before the trees of the label k: the field's head, the label, the head of its array. This is the
+-- field's tag, too
+unfoldable pub labelHeads : ℕ → ℕ
+labelHeads k = 7
+
+-- the label's bytes
+unfoldable pub labelOf : ℕ → List ℕ
+labelOf k = k ∷ []
+
+-- the field of the label k, whose array has this content
+unfoldable pub labelF : ℕ → List ℕ → Field
+labelF k c = (labelHeads k, labelOf k ++ fieldBytes (1, c))
+
+-- ---- trees, arrays, labels
 unfoldable mutual
   pub treeF : Tree → Field
   treeF (node r ls) = (2, bytes (rootF r ∷ labelFs ls))
@@ -50,7 +66,7 @@ unfoldable mutual
 
   pub labelFs : Labels → List Field
   labelFs bare = []
-  labelFs (label k a ls) = (7, k ∷ fieldBytes (1, bytes (treeFs a))) ∷ labelFs ls
+  labelFs (label k a ls) = labelF k (bytes (treeFs a)) ∷ labelFs ls
 
 unfoldable pub arrayF : List Tree → Field
 arrayF ts = (1, bytes (treeFs (trees ts)))

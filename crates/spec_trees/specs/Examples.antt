@@ -10,7 +10,7 @@ use Rattle.spec_trees.specs.Options.{_>>=_, only, maybe, some?}
 use Rattle.spec_trees.specs.Lists.{filter, all, gather, each}
 use Rattle.spec_trees.specs.Tree.{Tree, node, void, integer, Labels, bare, label, trees, isLabel, find, put}
 use Rattle.spec_trees.specs.Size.{depth, rootSize, size, arraySize, fits}
-use Rattle.spec_trees.specs.Bytes.{Field, fieldBytes, bytes, low, big, pattern, rootF, treeF, arrayF, treeBytes, arrayBytes}
+use Rattle.spec_trees.specs.Bytes.{Field, fieldBytes, bytes, low, big, pattern, rootF, labelHeads, labelOf, labelF, treeF, arrayF, treeBytes, arrayBytes}
 use Rattle.spec_trees.specs.Readers.{split, fields, inside, one, two, three, many, chosen, among, tagged, emptied, lowValue, bigValue, wellFormed, tested}
 use Rattle.spec_trees.specs.Decode.{signed, bit, rootR, arrayWith, labelC, labelR, labelsWith, treeC, treeR, arrayR, decodeArray, readArray}
 
@@ -30,7 +30,7 @@ k ⇒ a ⨾ ls = label k (trees a) ls
 
 -- ---- under this name all definitions of the crate compute
 unfoldable abbrev pub decoded : List ℕ → Option (List Tree)
-unfolding _>>=_ only maybe some? filter all gather each isLabel find put depth rootSize size arraySize fits fieldBytes bytes low big pattern rootF treeF arrayF treeBytes arrayBytes split fields inside one two three many chosen among tagged emptied lowValue bigValue wellFormed tested signed bit rootR arrayWith labelC labelR labelsWith treeC treeR arrayR decodeArray readArray
+unfolding _>>=_ only maybe some? filter all gather each isLabel find put depth rootSize size arraySize fits fieldBytes bytes low big pattern rootF labelHeads labelOf labelF treeF arrayF treeBytes arrayBytes split fields inside one two three many chosen among tagged emptied lowValue bigValue wellFormed tested signed bit rootR arrayWith labelC labelR labelsWith treeC treeR arrayR decodeArray readArray
 decoded b = decodeArray b
 
 -- ---- forms

@@ -15,5 +15,6 @@ pub mod FieldLaws
 pub mod ReaderLaws
 pub mod NumberLaws
 pub mod SizeLaws
+pub mod FindLaws
 pub mod ArrayLaws
 pub mod Examples

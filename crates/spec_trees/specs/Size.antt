@@ -6,6 +6,7 @@ use Prim.Native.Nat.{ℕ, suc, _+_, max}
 use lib.ListN.{length}
 use lib.Dec.{leb}
 use Rattle.spec_trees.specs.Limits.{treeMax, depthMax}
+use Rattle.spec_trees.specs.Bytes.{labelHeads}
 use Rattle.spec_trees.specs.Tree.{Root, void, boolean, integer, text, Tree, node, Trees, ε, _▹_, Labels, bare, label, trees}
 
 -- a tree alone has depth 1, and those under a label are one deeper
@@ -39,7 +40,7 @@ unfoldable mutual
 
   pub sizeL : Labels → ℕ
   sizeL bare = 0
-  sizeL (label k a ls) = 7 + sizeA a + sizeL ls
+  sizeL (label k a ls) = labelHeads k + sizeA a + sizeL ls
 
 -- a list, as an array
 unfoldable pub arraySize : List Tree → ℕ

@@ -6,7 +6,7 @@ use native.Mathlib.Omega.{arith}
 use lib.ListN.{length, length-append}
 use Rattle.spec_trees.specs.Tree.{Root, void, boolean, integer, text, Tree, node, Trees, ε, _▹_, Labels, bare, label, list, trees}
 use Rattle.spec_trees.specs.Size.{rootSize, size, sizeA, sizeL, arraySize}
-use Rattle.spec_trees.specs.Bytes.{fieldBytes, bytes, rootF, treeF, treeFs, labelFs, arrayF, treeBytes, arrayBytes}
+use Rattle.spec_trees.specs.Bytes.{labelF, labelHeads, labelOf, fieldBytes, bytes, rootF, treeF, treeFs, labelFs, arrayF, treeBytes, arrayBytes}
 use Rattle.spec_trees.specs.NumberLaws.{length-big}
 
 pub trees-list : (a : Trees) → trees (list a) ≡ a
@@ -25,7 +25,7 @@ length-rootF (integer z) = rw length-big refl
 length-rootF (text s) = refl
 
 mutual
-  unfolding bytes treeF size
+  unfolding bytes treeF size labelF labelHeads labelOf
 
   pub length-treeF : (t : Tree) → 3 + length (treeF t .1) ≡ size t
   length-treeF (node r ls) = let h = length-rootF r in let q = length-labelFs ls in simp length-append (omega arith)

@@ -2,7 +2,7 @@
 use mathlib.Core.Path.{_≡_}
 use mathlib.Core.List.{List, _++_}
 use mathlib.Core.Bool.{Bool, true, false}
-use Prim.Native.Nat.{ℕ, _-_, _≤_, _<_}
+use Prim.Native.Nat.{ℕ, _≤_, _<_}
 use lib.ListN.{length, take, drop}
 use Rattle.spec_trees.specs.Limits.{treeMax, workMin}
 use Rattle.areas.specs.Area.{Is}
@@ -10,19 +10,16 @@ use Rattle.queries.specs.Places.{arrayTrees}
 use Rattle.spec_stages.specs.Stages.{State, going, large, long}
 use Rattle.stream.specs.declared.collector.Collector.{Collector}
 use Rattle.stream.specs.declared.collector.Collector.the-variants.{Len, Over, Large}
-
--- the trees of an array of the largest size, without its head
-abbrev pub treesMax : ℕ
-treesMax = 16381
+use Rattle.stream.specs.Map.{treesMax, collectorAt, tailMin}
 
 unfoldable pub isLarge : Collector → Bool
 isLarge (Len n) = false
 isLarge Over = false
 isLarge Large = true
 
--- the last part of every tail: 16,384 bytes for the collected array, and 5,460 reserved
+-- the end part of every tail
 abbrev pub ends : List ℕ → List ℕ
-ends w = drop (length w - 21844) w
+ends w = drop (collectorAt (length w)) w
 
 -- the collector at the end of w, which holds what s says, has taken xs
 unfoldable pub Collects : List ℕ → Collector → List ℕ → Type 0
@@ -50,7 +47,7 @@ pub record Feeds (t : List ℕ) (s : Collector) (v : List ℕ) (r : Collector) (
 -- ---- one tree for the collector: it stands at the front of t up to te
 pub record CollectReady (t : List ℕ) (te : ℕ) (s : Collector) : Type 0 where
   pub fits : te ≤ treeMax
-  pub wide : 27988 ≤ length t
+  pub wide : tailMin ≤ length t
   pub small : length t ≤ workMin
   pub goes : Open s
 

@@ -2,7 +2,7 @@
 use mathlib.Core.Path.{_≡_, refl, sym, ap, _∙_, subst}
 use mathlib.Core.List.{List, [], _++_, append-assoc, append-nil}
 use mathlib.Core.Bool.{true, false}
-use Prim.Native.Nat.{ℕ, _+_, _-_, _≤_}
+use Prim.Native.Nat.{ℕ, suc, _+_, _-_, _≤_}
 use native.Mathlib.Omega.{arith}
 use lib.ListN.{length, take, drop, replicate, length-append, length-drop, length-replicate}
 use lib.Seq.{drop-append-le, length-take-le, take-add, drop-at}
@@ -20,7 +20,8 @@ use Rattle.spec_stages.specs.Join.{beside, GroupFree}
 use Rattle.spec_stages.specs.JoinLaws.{stages-join}
 use Rattle.stream.specs.declared.collector.Collector.{Collector}
 use Rattle.stream.specs.declared.collector.Collector.the-variants.{Len, Over, Large}
-use Rattle.stream.specs.Collector.{treesMax, isLarge, ends, Collects, Open, Fed, Feeds, CollectReady, Collected}
+use Rattle.stream.specs.Map.{treesMax, endPart, collectorAt}
+use Rattle.stream.specs.Collector.{isLarge, ends, Collects, Open, Fed, Feeds, CollectReady, Collected}
 use Rattle.stream.specs.Tails.{tail, lent}
 use Rattle.spec_stages.specs.StretchLaws.{stages-none, stages-large}
 use Rattle.stream.specs.TailLaws.{ends-tail, ends-lent}
@@ -92,10 +93,10 @@ unfolding Fed
 feeds-large t v s us ss = subst (λ x. Feeds t s v Large x) (sym (stages-large us ss)) record { fed = λ xs h. refl }
 
 -- ---- the collector stays open
-witness : (t : List ℕ) (s : Collector) → 21844 ≤ length t → Open s → (xs : List ℕ) × Collects t s xs
+witness : (t : List ℕ) (s : Collector) → endPart ≤ length t → Open s → (xs : List ℕ) × Collects t s xs
 unfolding Open Collects
-witness t (Len n) b o = (take n (ends t), (sym (length-take-le n (ends t) (omega (arith, length-drop (length t - 21844) t))), o, refl))
-witness t Over b o = (replicate 16382 0, omega (arith, length-replicate {A = ℕ} 16382 0))
+witness t (Len n) b o = (take n (ends t), (sym (length-take-le n (ends t) (omega (arith, length-drop (collectorAt (length t)) t))), o, refl))
+witness t Over b o = (replicate (suc treesMax) 0, omega (arith, length-replicate {A = ℕ} (suc treesMax) 0))
 witness t Large b o = absurd o
 
 collects-open : (v : List ℕ) (r : Collector) (xs : List ℕ) → Collects v r xs → Open r
@@ -110,11 +111,11 @@ fed-open v r xs large o f = let z : isLarge r ≡ true = ap isLarge f in let y :
 fed-open v r xs long o f = absurd f
 fed-open v r xs (going ys) o f = collects-open v r (xs ++ arrayTrees ys) f
 
-pub feeds-open : {t v : List ℕ} {s r : Collector} {st : State} → 21844 ≤ length t → Open s → Feeds t s v r st → isLarge r ≡ false → Open r
+pub feeds-open : {t v : List ℕ} {s r : Collector} {st : State} → endPart ≤ length t → Open s → Feeds t s v r st → isLarge r ≡ false → Open r
 feeds-open {t} {v} {s} {r} {st} b o f l = let x = witness t s b o in fed-open v r (x .0) st l (f .fed (x .0) (x .1))
 
 -- ---- what the feed of a lent tail did is what it did in the whole
-pub feeds-lent : (a : ℕ) {t : List ℕ} (v y : List ℕ) {s r : Collector} {st : State} → a + 21844 ≤ length v → ends v ≡ ends t → length y ≡ length (tail a v)
+pub feeds-lent : (a : ℕ) {t : List ℕ} (v y : List ℕ) {s r : Collector} {st : State} → a + endPart ≤ length v → ends v ≡ ends t → length y ≡ length (tail a v)
     → Feeds (tail a v) s y r st → Feeds t s (lent a v y) r st
 feeds-lent a v y b n l f =
     feeds-move (ends-tail a v b ∙ n) (sym (ends-lent a v y (omega arith) l b)) f
@@ -122,7 +123,7 @@ feeds-lent a v y b n l f =
 -- ---- one tree is put behind the n bytes that the collector holds
 -- where the collector begins
 abbrev pub base : List ℕ → ℕ
-base t = length t - 21844
+base t = collectorAt (length t)
 
 front : (w : List ℕ) (a m : ℕ) → a ≤ length w → take m (drop a w) ≡ drop a (take (a + m) w)
 front w a m b = sym (ap (drop a) (take-add a m w) ∙ drop-at (take a w) (take m (drop a w)) a (length-take-le a w b))
@@ -142,7 +143,7 @@ module _ {t v : List ℕ} {te n : ℕ} {o : Out} (h : CollectReady t te (Len n))
         let d : length (take (base t + n) t) ≡ base t + n = length-take-le (base t + n) t (omega (arith, c .1, h .wide)) in (
           omega (arith, w .ends, c .0, s),
           omega (arith, w .room, w .ends),
-          ap (λ (i : ℕ). take (e - base t) (drop (i - 21844) v)) l ∙ front v (base t) (e - base t) (omega (arith, h .wide)) ∙ ap (λ (i : ℕ). drop (base t) (take i v)) m ∙ ap (drop (base t)) (w .below)
+          ap (λ (i : ℕ). take (e - base t) (drop (collectorAt i) v)) l ∙ front v (base t) (e - base t) (omega (arith, h .wide)) ∙ ap (λ (i : ℕ). drop (base t) (take i v)) m ∙ ap (drop (base t)) (w .below)
               ∙ drop-append-le (base t) (take (base t + n) t) b (omega (arith, d))
               ∙ ap (λ (y : List ℕ). y ++ b) (sym (front t (base t) n (omega (arith, h .wide))) ∙ c .2),
         );

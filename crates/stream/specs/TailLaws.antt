@@ -7,6 +7,7 @@ use lib.ListN.{length, take, drop, length-append, length-drop, drop-of-length-le
 use lib.Seq.{take-all, take-at, drop-append-add, drop-drop, length-take-le, take-take}
 use Rattle.areas.specs.Area.{Is}
 use Rattle.areas.specs.AreaLaws.{is-part, drop-more}
+use Rattle.stream.specs.Map.{endPart, collectorAt}
 use Rattle.stream.specs.Collector.{ends}
 use Rattle.stream.specs.Tails.{tail, lent}
 
@@ -17,10 +18,10 @@ module _ (a : ℕ) (w : List ℕ) where
   pub tail-length : length (tail a w) ≡ length w - a
   tail-length = ap length tail-drop ∙ length-drop a w
 
-  pub ends-tail : a + 21844 ≤ length w → ends (tail a w) ≡ ends w
+  pub ends-tail : a + endPart ≤ length w → ends (tail a w) ≡ ends w
   ends-tail h =
-      let n : a + (length (drop a w) - 21844) ≡ length w - 21844 = omega (arith, length-drop a w) in
-      ap (λ (l : List ℕ). drop (length l - 21844) l) tail-drop ∙ drop-drop (length (drop a w) - 21844) a w ∙ ap (λ (k : ℕ). drop k w) n
+      let n : a + collectorAt (length (drop a w)) ≡ collectorAt (length w) = omega (arith, length-drop a w) in
+      ap (λ (l : List ℕ). drop (collectorAt (length l)) l) tail-drop ∙ drop-drop (collectorAt (length (drop a w))) a w ∙ ap (λ (k : ℕ). drop k w) n
 
   -- what stands from a on stands at the front of the tail
   pub tail-is : {e : ℕ} {xs : List ℕ} → Is w a e xs → Is (tail a w) 0 (e - a) xs
@@ -41,12 +42,12 @@ module _ (a : ℕ) (w : List ℕ) where
     pub lent-front : take a (lent a w y) ≡ take a w
     lent-front = take-at (take a w) (y ++ drop (length w - a) (drop a w)) a (length-take-le a w b)
 
-    pub ends-lent : a + 21844 ≤ length w → ends (lent a w y) ≡ ends y
+    pub ends-lent : a + endPart ≤ length w → ends (lent a w y) ≡ ends y
     ends-lent h =
-        let n : length (take a w ++ y) - 21844 ≡ length (take a w) + (length y - 21844) = omega (arith, length-append (take a w) y, l, tail-length) in
-        ap (λ (z : List ℕ). drop (length z - 21844) z) lent-is ∙ ap (λ (k : ℕ). drop k (take a w ++ y)) n
-        ∙ drop-append-add (take a w) y (length y - 21844)
+        let n : collectorAt (length (take a w ++ y)) ≡ length (take a w) + collectorAt (length y) = omega (arith, length-append (take a w) y, l, tail-length) in
+        ap (λ (z : List ℕ). drop (collectorAt (length z)) z) lent-is ∙ ap (λ (k : ℕ). drop k (take a w ++ y)) n
+        ∙ drop-append-add (take a w) y (collectorAt (length y))
 
 -- all from a place on is as it was, so the end is
-pub ends-beyond : (w v : List ℕ) (a : ℕ) → length v ≡ length w → a + 21844 ≤ length w → drop a v ≡ drop a w → ends v ≡ ends w
-ends-beyond w v a l b h = ap (λ (k : ℕ). drop (k - 21844) v) l ∙ drop-more w v a (length w - 21844) (omega arith) h
+pub ends-beyond : (w v : List ℕ) (a : ℕ) → length v ≡ length w → a + endPart ≤ length w → drop a v ≡ drop a w → ends v ≡ ends w
+ends-beyond w v a l b h = ap (λ (k : ℕ). drop (collectorAt k) v) l ∙ drop-more w v a (collectorAt (length w)) (omega arith) h

@@ -15,12 +15,13 @@ use Rattle.spec_queries.specs.Bytes.{queryBytes}
 use Rattle.spec_queries.specs.Rules.{OkS, OkQ}
 use Rattle.queries.specs.TreesLaws.{array-reads}
 use Rattle.queries.specs.Places.{ReadsQuery}
-use Rattle.queries.specs.declared.stage.Span.{Span}
+use Rattle.areas.specs.declared.span.Span.{Span}
 use Rattle.spec_stages.specs.Stages.{State, going, large, long, stages}
 use Rattle.spec_stages.specs.KeepLaws.{stages-allowed}
 use Rattle.stream.specs.declared.collector.Collector.{Collector}
 use Rattle.spec_stages.specs.Stretch.{before, behind}
 use Rattle.spec_stages.specs.StretchLaws.{before-behind, stretch, before-short}
+use Rattle.stream.specs.MapLaws.{first-fits}
 use Rattle.stream.specs.Feed.{Planned}
 use Rattle.stretches.specs.declared.ended.Ended.{Ended}
 use Rattle.stretches.specs.Ended.{EndedIs, Forms, Runs}
@@ -28,28 +29,28 @@ use Rattle.stretches.specs.Stretch.{FirstReady, FirstPost}
 use Rattle.stretches.specs.Later.{Allows, LaterReady, LaterPost}
 
 module _ {q : List ℕ} {x : Span} (reads : ReadsQuery q x) where
-  plan : {j : List ℕ} (ss : List Stage) (us : List Tree) → q ≡ queryBytes ss → OkQ ss → j ≡ arrayBytes us → Within us → Planned q (x .from) (x .to) j ss us
+  plan : {j : List ℕ} (ss : List Stage) (us : List Tree) → q ≡ queryBytes ss → OkQ ss → j ≡ arrayBytes us → Within us → Planned q x j ss us
   plan {j} ss us a b c d = record { stages-ok = b .stages; stages-is = reads ss a; joined-ok = d .allowed; joined-is = array-reads j us c }
 
   module _ {i j : List ℕ} (h : Forms q i j) (w : List ℕ) (l : length w ≡ workMin) where
-    pub all-first : FirstReady i w q (x .from) (x .to) j
+    pub all-first : FirstReady i w q x j
     all-first = record {
       input = record { value = h .input; allowed = h .input-ok .allowed; value-is = array-reads i (h .input) (h .input-is) };
       list = h .query;
       joined = h .joined;
       planned = plan (h .query) (h .joined) (h .query-is) (h .query-ok) (h .joined-is) (h .joined-ok);
-      room = omega (arith, before-short (h .query), h .query-ok .count);
+      room = omega (arith, first-fits (length (before (h .query))) (omega (arith, before-short (h .query), h .query-ok .count)));
       small = omega arith;
     }
 
-    module _ {v : List ℕ} {s : Collector} (k : length v ≡ length w) (f : FirstPost i v q (x .from) (x .to) j s) where
+    module _ {v : List ℕ} {s : Collector} (k : length v ≡ length w) (f : FirstPost i v q x j s) where
       allows : (ss : List Stage) (ts us : List Tree) → All OkS ss → AllowedA ts → AllowedA us → (st : State) → stages us (before ss) (going ts) ≡ st → Allows st
       allows ss ts us a b c (going ys) y =
           stages-allowed us (before ss) ts ys c (All-left OkS (before ss) (behind ss) (subst (All OkS) (sym (before-behind ss)) a)) b y
       allows ss ts us a b c large y = tt
       allows ss ts us a b c long y = tt
 
-      pub all-later : LaterReady v q (x .from) (x .to) j s
+      pub all-later : LaterReady v q x j s
       all-later =
           let p = plan (h .query) (h .joined) (h .query-is) (h .query-ok) (h .joined-is) (h .joined-ok) in
           record {
@@ -63,7 +64,7 @@ module _ {q : List ℕ} {x : Span} (reads : ReadsQuery q x) where
             size = k ∙ l;
           }
 
-      pub all-runs : {u : List ℕ} {r : Ended} → LaterPost v u q (x .from) (x .to) j s r → Runs q i j u r
+      pub all-runs : {u : List ℕ} {r : Ended} → LaterPost v u q x j s r → Runs q i j u r
       all-runs {u} {r} g ss ts us a b c d e1 o =
           let p = plan ss us a b e1 o in
           subst (λ st. EndedIs u r st) (sym (stretch us ss (going ts)))

@@ -1,7 +1,7 @@
 -- What the answer of all stretches says: the state that the plain run's stages come to, and where its trees stand.
 use mathlib.Core.Path.{_≡_}
 use mathlib.Core.List.{List}
-use Prim.Native.Nat.{ℕ, _+_, _-_, _≤_, _<_}
+use Prim.Native.Nat.{ℕ, _+_, _≤_, _<_}
 use lib.ListN.{length}
 use Rattle.spec_trees.specs.Limits.{arrayMax}
 use Rattle.spec_trees.specs.Tree.{Tree}
@@ -14,11 +14,8 @@ use Rattle.spec_queries.specs.Bytes.{queryBytes}
 use Rattle.spec_queries.specs.Rules.{OkQ}
 use Rattle.queries.specs.Places.{arrayTrees}
 use Rattle.spec_stages.specs.Stages.{State, going, large, long, stages}
+use Rattle.stream.specs.Map.{collectorAt}
 use Rattle.stretches.specs.declared.ended.Ended.{Ended}
-
--- where the collector begins, in an area of n bytes
-abbrev pub collectorAt : ℕ → ℕ
-collectorAt n = n - 21844
 
 -- the trees of the state stand in the collector, n bytes of them, and are no more than an array may have
 pub record HeldIs (w : List ℕ) (n : ℕ) (st : State) : Type 0 where

@@ -13,6 +13,7 @@ use Rattle.spec_trees.specs.SizeLaws.{length-tree}
 use Rattle.spec_trees.specs.Bytes.{treeBytes}
 use Rattle.spec_trees.specs.Within.{Allowed, AllowedA}
 use Rattle.areas.specs.Area.{Is, Wrote, fieldEnd}
+use Rattle.areas.specs.declared.span.Span.{Span}
 use Rattle.areas.specs.AreaLaws.{is-part, told, written}
 use Rattle.spec_queries.specs.Query.{Stage}
 use Rattle.queries.specs.Places.{arrayTrees, HoldsOk}
@@ -21,6 +22,7 @@ use Rattle.stream.specs.declared.collector.Collector.{Collector}
 use Rattle.stream.specs.declared.collector.Collector.the-variants.{Len, Large}
 use Rattle.spec_stages.specs.Stretch.{before}
 use Rattle.spec_stages.specs.StretchLaws.{before-free}
+use Rattle.stream.specs.Map.{tailMin}
 use Rattle.stream.specs.Collector.{isLarge, ends, Collects, Open, Feeds}
 use Rattle.stream.specs.CollectorLaws.{feeds-move, feeds-more, feeds-stop, feeds-none, feeds-open}
 use Rattle.stream.specs.TailLaws.{ends-beyond}
@@ -41,28 +43,28 @@ pub shows-all : {w v : List ℕ} {r : Collector} {st : State} → Feeds w (Len 0
 shows-all {w} f = record { fed = f .fed [] (collects-nothing w) }
 
 -- ---- the trees from i on
-abbrev pub FirstFrom : (inp w : List ℕ) (s : Collector) (v q : List ℕ) (p e : ℕ) (j : List ℕ) (i : ℕ) → Collector → Type 0
-FirstFrom inp w s v q p e j i r = (ts : List Tree) (ss : List Stage) (us : List Tree) → AllowedA ts → Is inp i (length inp) (arrayTrees ts) → Planned q p e j ss us
+abbrev pub FirstFrom : (inp w : List ℕ) (s : Collector) (v q : List ℕ) (p : Span) (j : List ℕ) (i : ℕ) → Collector → Type 0
+FirstFrom inp w s v q p j i r = (ts : List Tree) (ss : List Stage) (us : List Tree) → AllowedA ts → Is inp i (length inp) (arrayTrees ts) → Planned q p j ss us
     → Feeds w s v r (stages us (before ss) (going ts))
 
-pub record FirstGoing (inp w₀ q : List ℕ) (p e : ℕ) (j w : List ℕ) (s : Collector) (i : ℕ) : Type 0 where
+pub record FirstGoing (inp w₀ q : List ℕ) (p : Span) (j w : List ℕ) (s : Collector) (i : ℕ) : Type 0 where
   pub left : HoldsOk AllowedA arrayTrees inp i (length inp)
   pub same : length w ≡ length w₀
   pub goes : Open s
-  pub right : (v : List ℕ) (r : Collector) → FirstFrom inp w s v q p e j i r → FirstFrom inp w₀ (Len 0) v q p e j 3 r
+  pub right : (v : List ℕ) (r : Collector) → FirstFrom inp w s v q p j i r → FirstFrom inp w₀ (Len 0) v q p j 3 r
 
-module _ {inp w₀ q : List ℕ} {p e : ℕ} {j : List ℕ} (h : FirstReady inp w₀ q p e j) where
-  pub first-begin : FirstGoing inp w₀ q p e j w₀ (Len 0) 3
+module _ {inp w₀ q : List ℕ} {p : Span} {j : List ℕ} (h : FirstReady inp w₀ q p j) where
+  pub first-begin : FirstGoing inp w₀ q p j w₀ (Len 0) 3
   first-begin = record { left = h .input; same = refl; goes = open-nothing; right = λ v r k. k }
 
-  module _ {w : List ℕ} {s : Collector} {i : ℕ} (g : FirstGoing inp w₀ q p e j w s i) where
-    pub first-room : 27988 ≤ length w
+  module _ {w : List ℕ} {s : Collector} {i : ℕ} (g : FirstGoing inp w₀ q p j w s i) where
+    pub first-room : tailMin ≤ length w
     first-room = omega (arith, h .room, g .same)
 
-    pub first-end : i ≡ length inp → FirstPost inp w q p e j s
+    pub first-end : i ≡ length inp → FirstPost inp w q p j s
     first-end z ts ss us o t k = shows-all (g .right w s last ts ss us o t k)
       where
-        last : FirstFrom inp w s w q p e j i s
+        last : FirstFrom inp w s w q p j i s
         last ts ss us o t k =
             subst (λ l. Feeds w s w s (stages us (before ss) (going l))) (sym (array-none ts z t)) (feeds-none w s us (before ss) (before-free ss))
 
@@ -94,7 +96,7 @@ module _ {inp w₀ q : List ℕ} {p e : ℕ} {j : List ℕ} (h : FirstReady inp 
             let f = put (c .first) (a .0) (c .first-is) .fits (m - i) refl in
             ends-beyond w v (m - i) l (omega (arith, first-places, first-room)) (f .beyond)
 
-        pub first-feed : FeedReady v (m - i) q p e j s
+        pub first-feed : FeedReady v (m - i) q p j s
         first-feed =
             let c = array-parts (g .left .value) z n (g .left .value-is) in
             let a = subst AllowedA (c .same) (g .left .allowed) in
@@ -109,22 +111,22 @@ module _ {inp w₀ q : List ℕ} {p e : ℕ} {j : List ℕ} (h : FirstReady inp 
               goes = g .goes;
             }
 
-        module _ {x : List ℕ} {r : Collector} (y : length x ≡ length v) (f : FeedPost v x (m - i) q p e j s r) where
-          fed : (t : Tree) (ss : List Stage) (us : List Tree) → Allowed depthMax t → Is inp i m (treeBytes t) → Planned q p e j ss us
+        module _ {x : List ℕ} {r : Collector} (y : length x ≡ length v) (f : FeedPost v x (m - i) q p j s r) where
+          fed : (t : Tree) (ss : List Stage) (us : List Tree) → Allowed depthMax t → Is inp i m (treeBytes t) → Planned q p j ss us
               → Feeds w s x r (stages us (before ss) (going (t ∷ [])))
           fed t ss us a b d = feeds-move first-ends refl (f ss us t d (first-front t a b))
 
-          pub first-stop : (u : List ℕ) → isLarge r ≡ true → FirstPost inp u q p e j Large
+          pub first-stop : (u : List ℕ) → isLarge r ≡ true → FirstPost inp u q p j Large
           first-stop u b ts ss us a t d = shows-all (g .right u Large stop ts ss us a t d)
             where
-              stop : FirstFrom inp w s u q p e j i Large
+              stop : FirstFrom inp w s u q p j i Large
               stop ts ss us a t d =
                   let c = array-parts ts z n t in
                   let ok = subst AllowedA (c .same) a in
                   subst (λ l2. Feeds w s u Large (stages us (before ss) (going l2))) (sym (c .same))
                   (feeds-stop u us (before ss) (before-free ss) (c .first ∷ []) (c .rest) (fed (c .first) ss us (ok .0) (c .first-is) d) b)
 
-          pub first-again : isLarge r ≡ false → FirstGoing inp w₀ q p e j x r m
+          pub first-again : isLarge r ≡ false → FirstGoing inp w₀ q p j x r m
           first-again b =
               let c = array-parts (g .left .value) z n (g .left .value-is) in
               let ok = subst AllowedA (c .same) (g .left .allowed) in

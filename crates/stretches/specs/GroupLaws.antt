@@ -14,17 +14,18 @@ use Rattle.spec_trees.specs.Options.{_>>=_}
 use Rattle.spec_trees.specs.OptionLaws.{true-T, some-equal}
 use Rattle.spec_trees.specs.Lists.{filter, All, gather, each}
 use Rattle.spec_trees.specs.ListLaws.{All-append, All-filter, All-map}
-use Rattle.spec_trees.specs.Limits.{depthMax, groupingMax}
+use Rattle.spec_trees.specs.Limits.{depthMax, groupingMax, workMin}
 use Rattle.spec_trees.specs.Tree.{Tree, bareVoid}
 use Rattle.spec_trees.specs.Size.{fits}
 use Rattle.spec_trees.specs.Bytes.{bytes, treeFs, treeBytes}
 use Rattle.spec_trees.specs.Within.{Ok, Allowed, AllowedA}
-use Rattle.areas.specs.Area.{Is, fieldEnd}
+use Rattle.areas.specs.Area.{Is, fieldEnd, span}
+use Rattle.areas.specs.declared.span.Span.{Span}
 use Rattle.areas.specs.AreaLaws.{is-keep, is-join}
 use Rattle.spec_queries.specs.Query.{Pair, Stage}
 use Rattle.spec_queries.specs.Bytes.{pairF}
 use Rattle.spec_queries.specs.Rules.{OkPair, OkPairs}
-use Rattle.queries.specs.Places.{pairsBytes, arrayTrees, HoldsOk}
+use Rattle.queries.specs.Places.{pairsBytes, arrayTrees, HoldsOk, OkAt}
 use Rattle.queries.specs.PartLaws.{list-parts, list-none}
 use Rattle.spec_stages.specs.Paths.{over, apply}
 use Rattle.spec_stages.specs.Merge.{merge, build}
@@ -47,12 +48,14 @@ use Rattle.stream.specs.declared.collector.Collector.{Collector}
 use Rattle.stream.specs.declared.collector.Collector.the-variants.{Len, Over, Large}
 use Rattle.spec_stages.specs.Stretch.{before}
 use Rattle.spec_stages.specs.StretchLaws.{before-free}
+use Rattle.stream.specs.Map.{frontPart, building}
 use Rattle.stream.specs.Collector.{isLarge, ends, Open, Feeds}
 use Rattle.stream.specs.CollectorLaws.{feeds-beside, feeds-halt, feeds-none, feeds-large, feeds-open, feeds-lent}
 use Rattle.stream.specs.Tails.{tail, lent}
 use Rattle.stream.specs.TailLaws.{tail-is, tail-length, lent-front, ends-beyond}
 use Rattle.stream.specs.Feed.{Planned, Front, FeedReady, FeedPost}
 use Rattle.spec_stages.specs.StageLaws.{build-fits, void-fits}
+use Rattle.stretches.specs.declared.next.StretchAt.{StretchAt}
 use Rattle.stretches.specs.Stretch.{Pairs, Gathered, GroupReady, GroupPost, through}
 use Rattle.stretches.specs.FirstLaws.{open-nothing, shows-all}
 use Rattle.stretches.specs.Grouping.{SubsetsIs, begun, ClassFrom, ClassFed, SubsetReady, SubsetFed}
@@ -61,14 +64,14 @@ use Rattle.stretches.specs.Grouping.{SubsetsIs, begun, ClassFrom, ClassF
 doubled : (c n : ℕ) → n * (2 * c) ≡ (n + n) * c
 doubled c n = omega arith
 
-module _ (q : List ℕ) (g at h n : ℕ) (inv : (c : ℕ) → SubsetsIs q at h c → SubsetsIs q g h (n * c)) where
-  pub subsets-end : at ≡ h → SubsetsIs q g h n
-  subsets-end z = let y : n * 1 ≡ n = omega arith in subst (SubsetsIs q g h) y (inv 1 (λ gs k. subst (λ l. 1 ≡ 2 ^ length l) (sym (list-none pairF gs z k)) refl))
+module _ (q : List ℕ) (g at h n : ℕ) (inv : (c : ℕ) → SubsetsIs q (span at h) c → SubsetsIs q (span g h) (n * c)) where
+  pub subsets-end : at ≡ h → SubsetsIs q (span g h) n
+  subsets-end z = let y : n * 1 ≡ n = omega arith in subst (SubsetsIs q (span g h)) y (inv 1 (λ gs k. subst (λ l. 1 ≡ 2 ^ length l) (sym (list-none pairF gs z k)) refl))
 
-  pub subsets-on : {m : ℕ} → (at ≡ h → ⊥) → m ≡ fieldEnd q at → (c : ℕ) → SubsetsIs q m h c → SubsetsIs q g h ((n + n) * c)
-  subsets-on {m} ne z c k = subst (SubsetsIs q g h) (doubled c n) (inv (2 * c) twice)
+  pub subsets-on : {m : ℕ} → (at ≡ h → ⊥) → m ≡ fieldEnd q at → (c : ℕ) → SubsetsIs q (span m h) c → SubsetsIs q (span g h) ((n + n) * c)
+  subsets-on {m} ne z c k = subst (SubsetsIs q (span g h)) (doubled c n) (inv (2 * c) twice)
     where
-      twice : SubsetsIs q at h (2 * c)
+      twice : SubsetsIs q (span at h) (2 * c)
       twice gs y =
           let p = list-parts pairF gs z ne y in
           ap (λ i. 2 * i) (k (p .rest) (p .rest-is)) ∙ power (length (p .rest)) ∙ sym (ap (λ l. 2 ^ length l) (p .same))
@@ -76,8 +79,8 @@ module _ (q : List ℕ) (g at h n : ℕ) (inv : (c : ℕ) → SubsetsIs q at h c
           power : (i : ℕ) → 2 * 2 ^ i ≡ 2 ^ suc i
           power i = simp unary-clauses (omega arith)
 
-pub subsets-start : (q : List ℕ) (g h c : ℕ) → SubsetsIs q g h c → SubsetsIs q g h (1 * c)
-subsets-start q g h c k = let y : c ≡ 1 * c = omega arith in subst (SubsetsIs q g h) y k
+pub subsets-start : (q : List ℕ) (g h c : ℕ) → SubsetsIs q (span g h) c → SubsetsIs q (span g h) (1 * c)
+subsets-start q g h c k = let y : c ≡ 1 * c = omega arith in subst (SubsetsIs q (span g h)) y k
 
 -- ---- the tree of a class is allowed
 built-ok : (s : Tree) (ts : List Tree) {y : Tree} → Ok s → All Ok ts → build s ts ≡ some y → Ok y
@@ -133,15 +136,30 @@ module _ (us : List Tree) (ss : List Stage) (ags gs : List Pair) where
     through-stop o = subst (λ x. Feeds t s w Large x) (sym (through-join a b)) (feeds-halt w (through us ss ags gs a) (through us ss ags gs b) p o)
 
 -- ---- one tree of the array
-module _ {w : List ℕ} {n : ℕ} {q : List ℕ} {f u g h m e : ℕ} {j : List ℕ} {x xe : ℕ} {s : Collector} (c : ClassFrom w n q f u g h m e j x xe s) where
-  pub class-asked : BeginsReady w q g h 0 x xe
+
+-- where it ends, as its head says
+module _ {w : List ℕ} {n : ℕ} {q : List ℕ} {at : StretchAt} {j : List ℕ} {x m : ℕ} {s : Collector} (z : m ≡ fieldEnd w x) where
+  pub from-end : ClassFrom w n q at j x (fieldEnd w x) s → ClassFrom w n q at j x m s
+  from-end c = subst (λ e. ClassFrom w n q at j x e s) (sym z) c
+
+  pub to-end : ClassFrom w n q at j x m s → ClassFrom w n q at j x (fieldEnd w x) s
+  to-end c = subst (λ e. ClassFrom w n q at j x e s) z c
+
+  pub fed-from-end : {v : List ℕ} {k : ℕ} {r : Collector} → ClassFed w v n q at k j x (fieldEnd w x) s r → ClassFed w v n q at k j x m s r
+  fed-from-end {v} {k} {r} c = subst (λ e. ClassFed w v n q at k j x e s r) (sym z) c
+
+  pub fed-to-end : {v : List ℕ} {k : ℕ} {r : Collector} → ClassFed w v n q at k j x m s r → ClassFed w v n q at k j x (fieldEnd w x) s r
+  fed-to-end {v} {k} {r} c = subst (λ e. ClassFed w v n q at k j x e s r) z c
+
+module _ {w : List ℕ} {n : ℕ} {q : List ℕ} {at : StretchAt} {j : List ℕ} {x xe : ℕ} {s : Collector} (c : ClassFrom w n q at j x xe s) where
+  pub class-asked : BeginsReady w q (at .group .keys) 0 (span x xe)
   class-asked = record {
     grouping = record { value = c .ready .grouping; allowed = c .ready .pairs .grouping-ok; value-is = c .ready .pairs .grouping-is };
     seen = c .seen;
     tree = c .tree;
   }
 
-  pub class-built : ClassReady w q f u g h x xe n 21844
+  pub class-built : ClassReady w q (at .group) (span x xe) n frontPart
   class-built = record {
     aggregates = record { value = c .ready .aggregates; allowed = c .ready .pairs .aggregates-ok; value-is = c .ready .pairs .aggregates-is };
     grouping = record { value = c .ready .grouping; allowed = c .ready .pairs .grouping-ok; value-is = c .ready .pairs .grouping-is };
@@ -152,7 +170,7 @@ module _ {w : List ℕ} {n : ℕ} {q : List ℕ} {f u g h m e : ℕ} {j : List �
     small = c .ready .small;
   }
 
-  pub class-other : {k : ℕ} {b : Bool} → BeginsIs w q g h 0 x xe k b → b ≡ false → ClassFed w w n q f u g h k m e j x xe s s
+  pub class-other : {k : ℕ} {b : Bool} → BeginsIs w q (at .group .keys) 0 (span x xe) k b → b ≡ false → ClassFed w w n q at k j x xe s s
   class-other says z = record {
     kept = refl;
     feeds = λ ags gs seen t ts ss us hp os hs ot ht ots hts hl.
@@ -160,14 +178,14 @@ module _ {w : List ℕ} {n : ℕ} {q : List ℕ} {f u g h m e : ℕ} {j : List �
         (sym z ∙ says gs seen t (hp .grouping-is) os hs ot ht) (through-none us ss ags gs w s);
   }
 
-  module _ {y : List ℕ} {o : Out} (l : length y ≡ length w) (made : MakesClass w y q f u g h x xe n 21844 o) where
-    made-here : Made w y 21844 (classTree (c .ready .aggregates) (c .ready .grouping) (c .tree .value, filter (alike (c .ready .grouping) (c .tree .value)) (c .rest .value))) o
+  module _ {y : List ℕ} {o : Out} (l : length y ≡ length w) (made : MakesClass w y q (at .group) (span x xe) n frontPart o) where
+    made-here : Made w y frontPart (classTree (c .ready .aggregates) (c .ready .grouping) (c .tree .value, filter (alike (c .ready .grouping) (c .tree .value)) (c .rest .value))) o
     made-here =
         made (c .ready .aggregates) (c .ready .grouping) (c .tree .value) (c .rest .value)
         (c .ready .pairs .aggregates-ok) (c .ready .pairs .aggregates-is) (c .ready .pairs .grouping-ok) (c .ready .pairs .grouping-is)
         (c .tree .allowed) (c .tree .value-is) (c .rest .allowed) (c .rest .value-is)
 
-    pub class-large : {k : ℕ} {b : Bool} → BeginsIs w q g h 0 x xe k b → b ≡ true → o ≡ TooLarge → ClassFed w y n q f u g h k m e j x xe s Large
+    pub class-large : {k : ℕ} {b : Bool} → BeginsIs w q (at .group .keys) 0 (span x xe) k b → b ≡ true → o ≡ TooLarge → ClassFed w y n q at k j x xe s Large
     class-large says z z2 = record {
       kept = made-here .below;
       feeds = λ ags gs seen t ts ss us hp os hs ot ht ots hts hl.
@@ -178,52 +196,52 @@ module _ {w : List ℕ} {n : ℕ} {q : List ℕ} {f u g h m e : ℕ} {j : List �
     }
 
     module _ {d : ℕ} (z2 : o ≡ At d) where
-      class-front : (ags gs : List Pair) (t : Tree) (ts : List Tree) → Pairs q f u g h ags gs → Allowed depthMax t → AllowedA ts
-          → (k2 : Made w y 21844 (classTree ags gs (t, filter (alike gs t) ts)) o) → Front (tail 21844 y) (d - 21844) (k2 .tree-is d z2 .tree)
+      class-front : (ags gs : List Pair) (t : Tree) (ts : List Tree) → Pairs q (at .group) ags gs → Allowed depthMax t → AllowedA ts
+          → (k2 : Made w y frontPart (classTree ags gs (t, filter (alike gs t) ts)) o) → Front (tail frontPart y) (d - frontPart) (k2 .tree-is d z2 .tree)
       class-front ags gs t ts hp ot ots k2 = record {
         allowed = class-allowed ags gs t ts (hp .aggregates-ok) (hp .grouping-ok) ot ots (k2 .tree-is d z2 .same);
-        tree-is = tail-is 21844 y (k2 .tree-is d z2 .stands);
+        tree-is = tail-is frontPart y (k2 .tree-is d z2 .stands);
       }
 
-      pub class-places : (21844 ≤ d) × (21844 ≤ length y)
+      pub class-places : (frontPart ≤ d) × (frontPart ≤ length y)
       class-places = (omega (arith, made-here .tree-is d z2 .stands .ends), omega (arith, c .ready .room))
 
-      pub class-feed : FeedReady (tail 21844 y) (d - 21844) q m e j s
+      pub class-feed : FeedReady (tail frontPart y) (d - frontPart) q (at .next) j s
       class-feed = record {
         list = c .ready .list;
         joined = c .ready .joined;
         tree = made-here .tree-is d z2 .tree;
         planned = c .ready .planned;
         front = class-front (c .ready .aggregates) (c .ready .grouping) (c .tree .value) (c .rest .value) (c .ready .pairs) (c .tree .allowed) (c .rest .allowed) made-here;
-        room = omega (arith, c .ready .room, tail-length 21844 y);
-        small = omega (arith, c .ready .small, tail-length 21844 y);
+        room = omega (arith, c .ready .room, tail-length frontPart y);
+        small = omega (arith, c .ready .small, tail-length frontPart y);
         goes = c .goes;
       }
 
-      module _ {y2 : List ℕ} {r : Collector} (l2 : length y2 ≡ length (tail 21844 y)) (p : FeedPost (tail 21844 y) y2 (d - 21844) q m e j s r) where
-        pub class-fed : {k : ℕ} {b : Bool} → BeginsIs w q g h 0 x xe k b → b ≡ true → ClassFed w (lent 21844 y y2) n q f u g h k m e j x xe s r
+      module _ {y2 : List ℕ} {r : Collector} (l2 : length y2 ≡ length (tail frontPart y)) (p : FeedPost (tail frontPart y) y2 (d - frontPart) q (at .next) j s r) where
+        pub class-fed : {k : ℕ} {b : Bool} → BeginsIs w q (at .group .keys) 0 (span x xe) k b → b ≡ true → ClassFed w (lent frontPart y y2) n q at k j x xe s r
         class-fed says z = record {
-          kept = lent-front 21844 y y2 (class-places .1) l2 ∙ made-here .below;
+          kept = lent-front frontPart y y2 (class-places .1) l2 ∙ made-here .below;
           feeds = λ ags gs seen t ts ss us hp os hs ot ht ots hts hl.
               let k2 = made ags gs t ts (hp .aggregates-ok) (hp .aggregates-is) (hp .grouping-ok) (hp .grouping-is) ot ht ots hts in
-              subst (λ i. Feeds w s (lent 21844 y y2) r (through us ss ags gs (cond i ((t, filter (alike gs t) ts) ∷ []) [])))
+              subst (λ i. Feeds w s (lent frontPart y y2) r (through us ss ags gs (cond i ((t, filter (alike gs t) ts) ∷ []) [])))
               (sym z ∙ says gs seen t (hp .grouping-is) os hs ot ht)
-              (subst (λ i. Feeds w s (lent 21844 y y2) r i) (sym (through-one us ss ags gs (t, filter (alike gs t) ts) (k2 .tree-is d z2 .same)))
-              (feeds-lent 21844 y y2 (omega (arith, c .ready .room)) (ends-beyond w y 27988 l (omega (arith, c .ready .room)) (made-here .beyond)) l2
+              (subst (λ i. Feeds w s (lent frontPart y y2) r i) (sym (through-one us ss ags gs (t, filter (alike gs t) ts) (k2 .tree-is d z2 .same)))
+              (feeds-lent frontPart y y2 (omega (arith, c .ready .room)) (ends-beyond w y (frontPart + building) l (omega (arith, c .ready .room)) (made-here .beyond)) l2
               (p ss us (k2 .tree-is d z2 .tree) hl (class-front ags gs t ts hp ot ots k2))));
         }
 
 -- ---- the trees of the array, for one subset
 
 -- the array stands where it stood, though the area behind it changed
-ready-kept : {w w2 : List ℕ} {n : ℕ} {q : List ℕ} {f u g h m e : ℕ} {j : List ℕ} → take 21844 w2 ≡ take 21844 w → length w2 ≡ length w
-    → GroupReady w n q f u g h m e j → GroupReady w2 n q f u g h m e j
+ready-kept : {w w2 : List ℕ} {n : ℕ} {q : List ℕ} {at : StretchAt} {j : List ℕ} → take frontPart w2 ≡ take frontPart w → length w2 ≡ length w
+    → GroupReady w n q at j → GroupReady w2 n q at j
 ready-kept k l c = record {
   aggregates = c .aggregates;
   grouping = c .grouping;
   pairs = c .pairs;
   trees = c .trees;
-  gathered = record { allowed = c .gathered .allowed; trees-is = is-keep (c .gathered .trees-is) {d = 21844} k (omega (arith, c .short)) };
+  gathered = record { allowed = c .gathered .allowed; trees-is = is-keep (c .gathered .trees-is) {d = frontPart} k (omega (arith, c .short)) };
   short = c .short;
   list = c .list;
   joined = c .joined;
@@ -254,21 +272,21 @@ unfolding given
 one-more {w} {x} {xe} seen t h k = subst (λ i. Is w 0 xe i) (sym (trees-append seen (t ∷ []))) (is-join h (subst (λ i. Is w x xe i) (one-bytes t) k))
 
 -- the trees from x on, in an area in which the array stands as in w₀
-abbrev pub ScanFrom : (w₀ w : List ℕ) (n : ℕ) (q : List ℕ) (f u g h k m e : ℕ) (j : List ℕ) (s : Collector) (v : List ℕ) (x : ℕ) → Collector → Type 0
-ScanFrom w₀ w n q f u g h k m e j s v x r = (ags gs : List Pair) (seen ts : List Tree) (ss : List Stage) (us : List Tree) → Pairs q f u g h ags gs
-    → AllowedA seen → Is w₀ 0 x (arrayTrees seen) → AllowedA ts → Is w₀ x n (arrayTrees ts) → Planned q m e j ss us
+abbrev pub ScanFrom : (w₀ w : List ℕ) (n : ℕ) (q : List ℕ) (at : StretchAt) (k : ℕ) (j : List ℕ) (s : Collector) (v : List ℕ) (x : ℕ) → Collector → Type 0
+ScanFrom w₀ w n q at k j s v x r = (ags gs : List Pair) (seen ts : List Tree) (ss : List Stage) (us : List Tree) → Pairs q (at .group) ags gs
+    → AllowedA seen → Is w₀ 0 x (arrayTrees seen) → AllowedA ts → Is w₀ x n (arrayTrees ts) → Planned q (at .next) j ss us
     → Feeds w s v r (through us ss ags gs (scan gs k seen ts))
 
-pub record ScanGoing (w₀ : List ℕ) (n : ℕ) (q : List ℕ) (f u g h k m e : ℕ) (j : List ℕ) (s₀ : Collector) (w : List ℕ) (s : Collector) (x : ℕ) : Type 0 where
+pub record ScanGoing (w₀ : List ℕ) (n : ℕ) (q : List ℕ) (at : StretchAt) (k : ℕ) (j : List ℕ) (s₀ : Collector) (w : List ℕ) (s : Collector) (x : ℕ) : Type 0 where
   pub seen : HoldsOk AllowedA arrayTrees w₀ 0 x
   pub left : HoldsOk AllowedA arrayTrees w₀ x n
   pub same : length w ≡ length w₀
-  pub kept : take 21844 w ≡ take 21844 w₀
+  pub kept : take frontPart w ≡ take frontPart w₀
   pub goes : Open s
-  pub right : (v : List ℕ) (r : Collector) → ScanFrom w₀ w n q f u g h k m e j s v x r → ScanFrom w₀ w₀ n q f u g h k m e j s₀ v 0 r
+  pub right : (v : List ℕ) (r : Collector) → ScanFrom w₀ w n q at k j s v x r → ScanFrom w₀ w₀ n q at k j s₀ v 0 r
 
-module _ {w₀ : List ℕ} {n : ℕ} {q : List ℕ} {f u g h m e : ℕ} {j : List ℕ} {s₀ : Collector} (c : SubsetReady w₀ n q f u g h m e j s₀) (k : ℕ) where
-  pub scan-begin : ScanGoing w₀ n q f u g h k m e j s₀ w₀ s₀ 0
+module _ {w₀ : List ℕ} {n : ℕ} {q : List ℕ} {at : StretchAt} {j : List ℕ} {s₀ : Collector} (c : SubsetReady w₀ n q at j s₀) (k : ℕ) where
+  pub scan-begin : ScanGoing w₀ n q at k j s₀ w₀ s₀ 0
   scan-begin = record {
     seen = record { value = []; allowed = tt; value-is = no-trees };
     left = record { value = c .ready .trees; allowed = c .ready .gathered .allowed; value-is = c .ready .gathered .trees-is };
@@ -278,26 +296,26 @@ module _ {w₀ : List ℕ} {n : ℕ} {q : List ℕ} {f u g h m e : ℕ} {j : Lis
     right = λ v r i. i;
   }
 
-  subset-fed : {v : List ℕ} {r : Collector} → take 21844 v ≡ take 21844 w₀ → ScanFrom w₀ w₀ n q f u g h k m e j s₀ v 0 r → SubsetFed w₀ v n q f u g h k m e j s₀ r
+  subset-fed : {v : List ℕ} {r : Collector} → take frontPart v ≡ take frontPart w₀ → ScanFrom w₀ w₀ n q at k j s₀ v 0 r → SubsetFed w₀ v n q at k j s₀ r
   subset-fed l p = record {
     kept = l;
     feeds = λ ags gs ts ss us hp hg hl. p ags gs [] ts ss us hp tt no-trees (hg .allowed) (hg .trees-is) hl;
   }
 
-  module _ {w : List ℕ} {s : Collector} {x : ℕ} (i : ScanGoing w₀ n q f u g h k m e j s₀ w s x) where
-    pub scan-end : x ≡ n → SubsetFed w₀ w n q f u g h k m e j s₀ s
+  module _ {w : List ℕ} {s : Collector} {x : ℕ} (i : ScanGoing w₀ n q at k j s₀ w s x) where
+    pub scan-end : x ≡ n → SubsetFed w₀ w n q at k j s₀ s
     scan-end z = subset-fed (i .kept) (i .right w s last)
       where
-        last : ScanFrom w₀ w n q f u g h k m e j s w x s
+        last : ScanFrom w₀ w n q at k j s w x s
         last ags gs seen ts ss us hp os hs ots hts hl =
             subst (λ l. Feeds w s w s (through us ss ags gs l)) (sym (ap (scan gs k seen) (array-none ts z hts) ∙ scan-none gs k seen)) (through-none us ss ags gs w s)
 
     module _ (ne : x ≡ n → ⊥) {xe : ℕ} (z : xe ≡ fieldEnd w x) where
       there : {a b : ℕ} {xs : List ℕ} → b ≤ n → Is w₀ a b xs → Is w a b xs
-      there b p = is-keep p {d = 21844} (i .kept) (omega (arith, c .ready .short))
+      there b p = is-keep p {d = frontPart} (i .kept) (omega (arith, c .ready .short))
 
       back : {a b : ℕ} {xs : List ℕ} → b ≤ n → Is w a b xs → Is w₀ a b xs
-      back b p = is-keep p {d = 21844} (sym (i .kept)) (omega (arith, c .ready .short))
+      back b p = is-keep p {d = frontPart} (sym (i .kept)) (omega (arith, c .ready .short))
 
       parts : (ts : List Tree) → Is w₀ x n (arrayTrees ts) → ArrayParts w₀ x xe n ts
       parts ts p =
@@ -318,10 +336,10 @@ module _ {w₀ : List ℕ} {n : ℕ} {q : List ℕ} {f u g h m e : ℕ} {j : Lis
       here-allowed : AllowedA (here .first ∷ here .rest)
       here-allowed = subst AllowedA (here .same) (i .left .allowed)
 
-      pub scan-places : (x + 6 ≤ xe) × (xe ≤ n) × (n ≤ length w) × (length w ≤ 65536)
+      pub scan-places : (x + 6 ≤ xe) × (xe ≤ n) × (n ≤ length w) × (length w ≤ workMin)
       scan-places = (here .after, here .within, omega (arith, c .ready .short, c .ready .room, i .same), omega (arith, c .ready .small, i .same))
 
-      pub scan-one : ClassFrom w n q f u g h m e j x xe s
+      pub scan-one : ClassFrom w n q at j x xe s
       scan-one = record {
         ready = ready-kept (i .kept) (i .same) (c .ready);
         goes = i .goes;
@@ -330,17 +348,17 @@ module _ {w₀ : List ℕ} {n : ℕ} {q : List ℕ} {f u g h m e : ℕ} {j : Lis
         rest = record { value = here .rest; allowed = here-allowed .1; value-is = there (omega arith) (here .rest-is) };
       }
 
-      module _ {y : List ℕ} {r : Collector} (l : length y ≡ length w) (p : ClassFed w y n q f u g h k m e j x xe s r) where
-        scan-fed : (ags gs : List Pair) (seen : List Tree) (t : Tree) (ts : List Tree) (ss : List Stage) (us : List Tree) → Pairs q f u g h ags gs
-            → AllowedA seen → Is w₀ 0 x (arrayTrees seen) → Allowed depthMax t → Is w₀ x xe (treeBytes t) → AllowedA ts → Is w₀ xe n (arrayTrees ts) → Planned q m e j ss us
+      module _ {y : List ℕ} {r : Collector} (l : length y ≡ length w) (p : ClassFed w y n q at k j x xe s r) where
+        scan-fed : (ags gs : List Pair) (seen : List Tree) (t : Tree) (ts : List Tree) (ss : List Stage) (us : List Tree) → Pairs q (at .group) ags gs
+            → AllowedA seen → Is w₀ 0 x (arrayTrees seen) → Allowed depthMax t → Is w₀ x xe (treeBytes t) → AllowedA ts → Is w₀ xe n (arrayTrees ts) → Planned q (at .next) j ss us
             → Feeds w s y r (through us ss ags gs (begun gs k seen t ts))
         scan-fed ags gs seen t ts ss us hp os hs ot ht ots hts hl =
             p .feeds ags gs seen t ts ss us hp os (there (omega (arith, here .after, here .within)) hs) ot (there (here .within) ht) ots (there (omega arith) hts) hl
 
-        pub scan-stop : isLarge r ≡ true → SubsetFed w₀ y n q f u g h k m e j s₀ Large
+        pub scan-stop : isLarge r ≡ true → SubsetFed w₀ y n q at k j s₀ Large
         scan-stop o = subset-fed (p .kept ∙ i .kept) (i .right y Large stop)
           where
-            stop : ScanFrom w₀ w n q f u g h k m e j s y x Large
+            stop : ScanFrom w₀ w n q at k j s y x Large
             stop ags gs seen ts ss us hp os hs ots hts hl =
                 let d = parts ts hts in
                 let ok = subst AllowedA (d .same) ots in
@@ -348,7 +366,7 @@ module _ {w₀ : List ℕ} {n : ℕ} {q : List ℕ} {f u g h m e : ℕ} {j : Lis
                 (through-stop us ss ags gs y (begun gs k seen (d .first) (d .rest)) (scan gs k (seen ++ (d .first ∷ [])) (d .rest))
                 (scan-fed ags gs seen (d .first) (d .rest) ss us hp os hs (ok .0) (d .first-is) (ok .1) (d .rest-is) hl) o)
 
-        pub scan-again : isLarge r ≡ false → ScanGoing w₀ n q f u g h k m e j s₀ y r xe
+        pub scan-again : isLarge r ≡ false → ScanGoing w₀ n q at k j s₀ y r xe
         scan-again o = record {
           seen = record {
             value = i .seen .value ++ (here .first ∷ []);
@@ -402,20 +420,20 @@ gather-zero f = refl
 abbrev pub found : List Pair → List Tree → ℕ → List Class
 found gs ts k = gather (λ i. scan gs i [] ts) (upto k)
 
-pub record GroupGoing (w₀ : List ℕ) (n : ℕ) (q : List ℕ) (f u g h m e : ℕ) (j w : List ℕ) (s : Collector) (total k : ℕ) : Type 0 where
+pub record GroupGoing (w₀ : List ℕ) (n : ℕ) (q : List ℕ) (at : StretchAt) (j w : List ℕ) (s : Collector) (total k : ℕ) : Type 0 where
   pub below : k ≤ total
   pub same : length w ≡ length w₀
-  pub kept : take 21844 w ≡ take 21844 w₀
+  pub kept : take frontPart w ≡ take frontPart w₀
   pub goes : Open s
-  pub done : (ags gs : List Pair) (ts : List Tree) (ss : List Stage) (us : List Tree) → Pairs q f u g h ags gs → Gathered w₀ n ts → Planned q m e j ss us
+  pub done : (ags gs : List Pair) (ts : List Tree) (ss : List Stage) (us : List Tree) → Pairs q (at .group) ags gs → Gathered w₀ n ts → Planned q (at .next) j ss us
       → Feeds w₀ (Len 0) w s (through us ss ags gs (found gs ts k))
 
 -- the pairs that are counted
-pub group-pairs : {w : List ℕ} {n : ℕ} {q : List ℕ} {f u g h m e : ℕ} {j : List ℕ} → GroupReady w n q f u g h m e j → HoldsOk FewPairs pairsBytes q g h
+pub group-pairs : {w : List ℕ} {n : ℕ} {q : List ℕ} {at : StretchAt} {j : List ℕ} → GroupReady w n q at j → OkAt FewPairs pairsBytes q (at .group .keys)
 group-pairs c = few-pairs (record { value = c .grouping; allowed = c .pairs .grouping-ok; value-is = c .pairs .grouping-is })
 
-module _ {w₀ : List ℕ} {n : ℕ} {q : List ℕ} {f u g h m e : ℕ} {j : List ℕ} (c : GroupReady w₀ n q f u g h m e j) (total : ℕ) where
-  pub group-begin : GroupGoing w₀ n q f u g h m e j w₀ (Len 0) total 0
+module _ {w₀ : List ℕ} {n : ℕ} {q : List ℕ} {at : StretchAt} {j : List ℕ} (c : GroupReady w₀ n q at j) (total : ℕ) where
+  pub group-begin : GroupGoing w₀ n q at j w₀ (Len 0) total 0
   group-begin = record {
     below = omega arith;
     same = refl;
@@ -425,29 +443,29 @@ module _ {w₀ : List ℕ} {n : ℕ} {q : List ℕ} {f u g h m e : ℕ} {j : Lis
         subst (λ l. Feeds w₀ (Len 0) w₀ (Len 0) (through us ss ags gs l)) (sym (gather-zero (λ i. scan gs i [] ts))) (through-none us ss ags gs w₀ (Len 0));
   }
 
-  module _ {w : List ℕ} {s : Collector} {k : ℕ} (i : GroupGoing w₀ n q f u g h m e j w s total k) where
-    pub group-end : SubsetsIs q g h total → k ≡ total → GroupPost w₀ w n q f u g h m e j s
+  module _ {w : List ℕ} {s : Collector} {k : ℕ} (i : GroupGoing w₀ n q at j w s total k) where
+    pub group-end : SubsetsIs q (at .group .keys) total → k ≡ total → GroupPost w₀ w n q at j s
     group-end t z ags gs ts ss us hp hg hl =
         shows-all (subst (λ l. Feeds w₀ (Len 0) w s (through us ss ags gs l)) (sym (grouped-scan gs ts ∙ ap (found gs ts) (sym (z ∙ t gs (hp .grouping-is)))))
         (i .done ags gs ts ss us hp hg hl))
 
-    pub group-subset : SubsetReady w n q f u g h m e j s
+    pub group-subset : SubsetReady w n q at j s
     group-subset = record { ready = ready-kept (i .kept) (i .same) c; goes = i .goes }
 
-    module _ (ne : k ≡ total → ⊥) {y : List ℕ} {r : Collector} (l : length y ≡ length w) (p : SubsetFed w y n q f u g h k m e j s r) where
+    module _ (ne : k ≡ total → ⊥) {y : List ℕ} {r : Collector} (l : length y ≡ length w) (p : SubsetFed w y n q at k j s r) where
       found-more : (gs : List Pair) (ts : List Tree) → found gs ts (k + 1) ≡ found gs ts k ++ scan gs k [] ts
       found-more gs ts =
           let a : ℕ → List Class = λ b. scan gs b [] ts in
           ap (gather a) (upto-more k) ∙ gather-append a (upto k) (k ∷ []) ∙ ap (λ b. found gs ts k ++ b) (gather-one a k)
 
-      next : (ags gs : List Pair) (ts : List Tree) (ss : List Stage) (us : List Tree) → Pairs q f u g h ags gs → Gathered w₀ n ts → Planned q m e j ss us
+      next : (ags gs : List Pair) (ts : List Tree) (ss : List Stage) (us : List Tree) → Pairs q (at .group) ags gs → Gathered w₀ n ts → Planned q (at .next) j ss us
           → Feeds w₀ (Len 0) y r (through us ss ags gs (found gs ts (k + 1)))
       next ags gs ts ss us hp hg hl =
           subst (λ b. Feeds w₀ (Len 0) y r (through us ss ags gs b)) (sym (found-more gs ts))
           (through-more us ss ags gs y (found gs ts k) (scan gs k [] ts) (i .done ags gs ts ss us hp hg hl) (open-small s (i .goes))
-          (p .feeds ags gs ts ss us hp (record { allowed = hg .allowed; trees-is = is-keep (hg .trees-is) {d = 21844} (i .kept) (omega (arith, c .short)) }) hl))
+          (p .feeds ags gs ts ss us hp (record { allowed = hg .allowed; trees-is = is-keep (hg .trees-is) {d = frontPart} (i .kept) (omega (arith, c .short)) }) hl))
 
-      pub group-stop : SubsetsIs q g h total → isLarge r ≡ true → (v : List ℕ) → GroupPost w₀ v n q f u g h m e j Large
+      pub group-stop : SubsetsIs q (at .group .keys) total → isLarge r ≡ true → (v : List ℕ) → GroupPost w₀ v n q at j Large
       group-stop t o v ags gs ts ss us hp hg hl =
           let d : k + 1 + (total - (k + 1)) ≡ total = omega (arith, i .below, ne) in
           let rest = upto-rest (k + 1) (total - (k + 1)) in
@@ -458,7 +476,7 @@ module _ {w₀ : List ℕ} {n : ℕ} {q : List ℕ} {f u g h m e : ℕ} {j : Lis
           shows-all (subst (λ b. Feeds w₀ (Len 0) v Large (through us ss ags gs b)) (sym whole)
           (through-stop us ss ags gs v (found gs ts (k + 1)) (gather a (rest .0)) (next ags gs ts ss us hp hg hl) o))
 
-      pub group-again : isLarge r ≡ false → GroupGoing w₀ n q f u g h m e j y r total (k + 1)
+      pub group-again : isLarge r ≡ false → GroupGoing w₀ n q at j y r total (k + 1)
       group-again o = record {
         below = omega (arith, i .below, ne);
         same = l ∙ i .same;

@@ -10,19 +10,22 @@ use Rattle.spec_trees.specs.Lists.{filter}
 use Rattle.spec_trees.specs.Tree.{Tree}
 use Rattle.spec_trees.specs.Bytes.{treeBytes}
 use Rattle.spec_trees.specs.Within.{Allowed, AllowedA}
-use Rattle.areas.specs.Area.{Is}
+use Rattle.areas.specs.Area.{Is, IsAt, fieldEnd}
+use Rattle.areas.specs.declared.span.Span.{Span}
 use Rattle.spec_queries.specs.Query.{Pair, Stage}
 use Rattle.queries.specs.Places.{pairsBytes, arrayTrees, HoldsOk}
 use Rattle.spec_stages.specs.Group.{Class, alike}
 use Rattle.spec_stages.specs.Classes.{begins, scan}
 use Rattle.stream.specs.declared.collector.Collector.{Collector}
+use Rattle.stream.specs.Map.{frontPart}
 use Rattle.stream.specs.Collector.{Open, Feeds}
 use Rattle.stream.specs.Feed.{Planned}
+use Rattle.stretches.specs.declared.next.StretchAt.{StretchAt}
 use Rattle.stretches.specs.Stretch.{Pairs, Gathered, GroupReady, through}
 
 -- r is how many subsets the grouping pairs have, whatever pairs stand there
-abbrev pub SubsetsIs : (q : List ℕ) (g h : ℕ) → ℕ → Type 0
-SubsetsIs q g h r = (gs : List Pair) → Is q g h (pairsBytes gs) → r ≡ 2 ^ length gs
+abbrev pub SubsetsIs : (q : List ℕ) (keysAt : Span) → ℕ → Type 0
+SubsetsIs q keysAt r = (gs : List Pair) → IsAt q keysAt (pairsBytes gs) → r ≡ 2 ^ length gs
 
 -- ---- one tree of the array
 
@@ -31,27 +34,34 @@ abbrev pub begun : List Pair → ℕ → List Tree → Tree → List Tree → Li
 begun gs k seen t ts = cond (begins gs k seen t) ((t, filter (alike gs t) ts) ∷ []) []
 
 -- the array's trees before x, the one from x to xe, and those behind it
-pub record ClassFrom (w : List ℕ) (n : ℕ) (q : List ℕ) (f u g h m e : ℕ) (j : List ℕ) (x xe : ℕ) (s : Collector) : Type 0 where
-  pub ready : GroupReady w n q f u g h m e j
+pub record ClassFrom (w : List ℕ) (n : ℕ) (q : List ℕ) (at : StretchAt) (j : List ℕ) (x xe : ℕ) (s : Collector) : Type 0 where
+  pub ready : GroupReady w n q at j
   pub goes : Open s
   pub seen : HoldsOk AllowedA arrayTrees w 0 x
   pub tree : HoldsOk (Allowed depthMax) treeBytes w x xe
   pub rest : HoldsOk AllowedA arrayTrees w xe n
 
 -- the tree of the class that begins there, if one does, went through the stages; the array stands as it stood
-pub record ClassFed (w v : List ℕ) (n : ℕ) (q : List ℕ) (f u g h k m e : ℕ) (j : List ℕ) (x xe : ℕ) (s r : Collector) : Type 0 where
-  pub kept : take 21844 v ≡ take 21844 w
-  pub feeds : (ags gs : List Pair) (seen : List Tree) (t : Tree) (ts : List Tree) (ss : List Stage) (us : List Tree) → Pairs q f u g h ags gs
-      → AllowedA seen → Is w 0 x (arrayTrees seen) → Allowed depthMax t → Is w x xe (treeBytes t) → AllowedA ts → Is w xe n (arrayTrees ts) → Planned q m e j ss us
+pub record ClassFed (w v : List ℕ) (n : ℕ) (q : List ℕ) (at : StretchAt) (k : ℕ) (j : List ℕ) (x xe : ℕ) (s r : Collector) : Type 0 where
+  pub kept : take frontPart v ≡ take frontPart w
+  pub feeds : (ags gs : List Pair) (seen : List Tree) (t : Tree) (ts : List Tree) (ss : List Stage) (us : List Tree) → Pairs q (at .group) ags gs
+      → AllowedA seen → Is w 0 x (arrayTrees seen) → Allowed depthMax t → Is w x xe (treeBytes t) → AllowedA ts → Is w xe n (arrayTrees ts) → Planned q (at .next) j ss us
       → Feeds w s v r (through us ss ags gs (begun gs k seen t ts))
 
+-- the same of the first of the trees that stand there, up to the array's end
+abbrev pub ClassFromFirst : (w : List ℕ) (treesAt : Span) (q : List ℕ) (at : StretchAt) (j : List ℕ) → Collector → Type 0
+ClassFromFirst w treesAt q at j s = ClassFrom w (treesAt .to) q at j (treesAt .from) (fieldEnd w (treesAt .from)) s
+
+abbrev pub ClassFedFirst : (w v : List ℕ) (treesAt : Span) (q : List ℕ) (at : StretchAt) (k : ℕ) (j : List ℕ) → Collector → Collector → Type 0
+ClassFedFirst w v treesAt q at k j s r = ClassFed w v (treesAt .to) q at k j (treesAt .from) (fieldEnd w (treesAt .from)) s r
+
 -- ---- one subset
-pub record SubsetReady (w : List ℕ) (n : ℕ) (q : List ℕ) (f u g h m e : ℕ) (j : List ℕ) (s : Collector) : Type 0 where
-  pub ready : GroupReady w n q f u g h m e j
+pub record SubsetReady (w : List ℕ) (n : ℕ) (q : List ℕ) (at : StretchAt) (j : List ℕ) (s : Collector) : Type 0 where
+  pub ready : GroupReady w n q at j
   pub goes : Open s
 
 -- the trees of its classes went through the stages; the array stands as it stood
-pub record SubsetFed (w v : List ℕ) (n : ℕ) (q : List ℕ) (f u g h k m e : ℕ) (j : List ℕ) (s r : Collector) : Type 0 where
-  pub kept : take 21844 v ≡ take 21844 w
-  pub feeds : (ags gs : List Pair) (ts : List Tree) (ss : List Stage) (us : List Tree) → Pairs q f u g h ags gs → Gathered w n ts → Planned q m e j ss us
+pub record SubsetFed (w v : List ℕ) (n : ℕ) (q : List ℕ) (at : StretchAt) (k : ℕ) (j : List ℕ) (s r : Collector) : Type 0 where
+  pub kept : take frontPart v ≡ take frontPart w
+  pub feeds : (ags gs : List Pair) (ts : List Tree) (ss : List Stage) (us : List Tree) → Pairs q (at .group) ags gs → Gathered w n ts → Planned q (at .next) j ss us
       → Feeds w s v r (through us ss ags gs (scan gs k [] ts))

@@ -1,9 +1,9 @@
 -- What the functions of the later stretches ask of the areas, and what they do.
 use mathlib.Core.Path.{_≡_}
 use mathlib.Core.List.{List}
-use Prim.Native.Nat.{ℕ, _+_, _*_, _≤_}
+use Prim.Native.Nat.{ℕ, _+_, _≤_}
 use lib.ListN.{length}
-use Rattle.spec_trees.specs.Limits.{treeMax, stagesMax, workMin}
+use Rattle.spec_trees.specs.Limits.{stagesMax, workMin}
 use Rattle.spec_trees.specs.Tree.{Tree}
 use Rattle.spec_trees.specs.Within.{AllowedA}
 use Rattle.spec_queries.specs.Query.{Pair, Stage}
@@ -13,10 +13,13 @@ use Rattle.spec_stages.specs.Stages.{State, going, large, long, stages}
 use Rattle.stream.specs.declared.collector.Collector.{Collector}
 use Rattle.stream.specs.declared.collector.Collector.the-variants.{Len}
 use Rattle.spec_stages.specs.Stretch.{before, behind}
+use Rattle.stream.specs.Map.{endPart, rooms, groupMin}
 use Rattle.stream.specs.Collector.{Collects}
 use Rattle.stream.specs.Feed.{Planned}
 use Rattle.stretches.specs.declared.ended.Ended.{Ended}
 use Rattle.stretches.specs.Ended.{EndedIs}
+use Rattle.areas.specs.declared.span.Span.{Span}
+use Rattle.stretches.specs.declared.next.StretchAt.{StretchAt}
 use Rattle.stretches.specs.Stretch.{Shows, Pairs, through}
 
 -- the trees of the state are allowed
@@ -27,37 +30,37 @@ Allows long = Unit {0}
 
 -- what the answer says when no group is left
 abbrev pub LastPost : Collector → Ended → Type 0
-LastPost s r = (w : List ℕ) (st : State) → 21844 ≤ length w → Shows w s st → EndedIs w r st
+LastPost s r = (w : List ℕ) (st : State) → endPart ≤ length w → Shows w s st → EndedIs w r st
 
 -- ---- the array that the collector holds enters a group
-pub record HeldReady (w : List ℕ) (n : ℕ) (q : List ℕ) (f u g h m e : ℕ) (j : List ℕ) : Type 0 where
+pub record HeldReady (w : List ℕ) (n : ℕ) (q : List ℕ) (at : StretchAt) (j : List ℕ) : Type 0 where
   pub aggregates : List Pair
   pub grouping : List Pair
-  pub pairs : Pairs q f u g h aggregates grouping
+  pub pairs : Pairs q (at .group) aggregates grouping
   pub trees : List Tree
   pub allowed : AllowedA trees
   pub collects : Collects w (Len n) (arrayTrees trees)
   pub list : List Stage
   pub joined : List Tree
-  pub planned : Planned q m e j list joined
-  pub room : treeMax * length (before list) + 49832 ≤ length w
+  pub planned : Planned q (at .next) j list joined
+  pub room : rooms (length (before list)) + groupMin ≤ length w
   pub small : length w ≤ workMin
 
-abbrev pub HeldPost : (w v : List ℕ) (n : ℕ) (q : List ℕ) (f u g h m e : ℕ) (j : List ℕ) → Collector → Type 0
-HeldPost w v n q f u g h m e j r = (ags gs : List Pair) (ts : List Tree) (ss : List Stage) (us : List Tree) → Pairs q f u g h ags gs → AllowedA ts
-    → Collects w (Len n) (arrayTrees ts) → Planned q m e j ss us → Shows v r (through us ss ags gs (grouped gs ts))
+abbrev pub HeldPost : (w v : List ℕ) (n : ℕ) (q : List ℕ) (at : StretchAt) (j : List ℕ) → Collector → Type 0
+HeldPost w v n q at j r = (ags gs : List Pair) (ts : List Tree) (ss : List Stage) (us : List Tree) → Pairs q (at .group) ags gs → AllowedA ts
+    → Collects w (Len n) (arrayTrees ts) → Planned q (at .next) j ss us → Shows v r (through us ss ags gs (grouped gs ts))
 
 -- ---- the stretches from the next group on
-pub record LaterReady (w q : List ℕ) (p e : ℕ) (j : List ℕ) (s : Collector) : Type 0 where
+pub record LaterReady (w q : List ℕ) (stagesAt : Span) (j : List ℕ) (s : Collector) : Type 0 where
   pub state : State
   pub shown : Shows w s state
   pub allowed : Allows state
   pub list : List Stage
   pub joined : List Tree
-  pub planned : Planned q p e j list joined
+  pub planned : Planned q stagesAt j list joined
   pub few : length list ≤ stagesMax
   pub size : length w ≡ workMin
 
-abbrev pub LaterPost : (w v q : List ℕ) (p e : ℕ) (j : List ℕ) → Collector → Ended → Type 0
-LaterPost w v q p e j s r = (st : State) (ss : List Stage) (us : List Tree) → Shows w s st → Allows st → Planned q p e j ss us
+abbrev pub LaterPost : (w v q : List ℕ) (stagesAt : Span) (j : List ℕ) → Collector → Ended → Type 0
+LaterPost w v q stagesAt j s r = (st : State) (ss : List Stage) (us : List Tree) → Shows w s st → Allows st → Planned q stagesAt j ss us
     → EndedIs v r (stages us (behind ss) st)

@@ -3,7 +3,7 @@ use mathlib.Core.Path.{_≡_, refl, sym, ap, subst, _∙_}
 use mathlib.Core.List.{List, _∷_}
 use mathlib.Core.Bool.{true, false}
 use mathlib.Core.Option.{none}
-use Prim.Native.Nat.{ℕ, suc, _+_, _-_, _≤_}
+use Prim.Native.Nat.{ℕ, suc, _+_, _-_, _≤_, _<_}
 use native.Mathlib.Omega.{arith}
 use lib.ListN.{length, take, drop}
 use lib.Seq.{take-add, drop-at, length-take-le}
@@ -15,7 +15,8 @@ use Rattle.spec_trees.specs.Tree.{Tree, trees}
 use Rattle.spec_trees.specs.Size.{arraySize}
 use Rattle.spec_trees.specs.SizeLaws.{length-treeFs}
 use Rattle.spec_trees.specs.Within.{AllowedA}
-use Rattle.areas.specs.Area.{Is, Wrote}
+use Rattle.areas.specs.Area.{Is, Wrote, IsAt}
+use Rattle.areas.specs.declared.span.Span.{Span}
 use Rattle.areas.specs.AreaLaws.{written}
 use Rattle.spec_queries.specs.Query.{Stage, group}
 use Rattle.spec_queries.specs.Rules.{OkS}
@@ -28,13 +29,16 @@ use Rattle.stream.specs.declared.collector.Collector.the-variants.{Len, Over, L
 use Rattle.spec_stages.specs.Stretch.{before, behind}
 use Rattle.spec_stages.specs.StretchLaws.{before-behind, before-short, stretch, stages-large, stages-long, shorter, behind-ok}
 use Rattle.spec_stages.specs.LeaveLaws.{group-step, group-long}
-use Rattle.stream.specs.Collector.{treesMax, isLarge, ends, Collects, Fed}
+use Rattle.stream.specs.Map.{treesMax, endPart, collectorAt, groupMin}
+use Rattle.stream.specs.MapLaws.{group-fits}
+use Rattle.stream.specs.Collector.{isLarge, ends, Collects, Fed}
 use Rattle.stream.specs.Feed.{Planned}
 use Rattle.stretches.specs.declared.ended.Ended.{Ended}
 use Rattle.stretches.specs.declared.next.Next.{Next}
+use Rattle.stretches.specs.declared.next.StretchAt.{StretchAt}
 use Rattle.stretches.specs.Ended.{HeldIs, FullIs, EndedIs}
 use Rattle.stretches.specs.Stretch.{Shows, Pairs, Gathered, GroupReady, GroupPost, through}
-use Rattle.stretches.specs.Next.{GroupIs, NextPost}
+use Rattle.stretches.specs.Next.{StretchIs, NextPost}
 use Rattle.stretches.specs.Later.{Allows, LastPost, HeldReady, HeldPost, LaterReady, LaterPost}
 
 -- ---- sizes
@@ -72,10 +76,10 @@ shown-large w large h = refl
 shown-large w long h = absurd (h .fed)
 
 -- what the collector holds stands at its place
-collects-is : (w : List ℕ) (n : ℕ) (xs : List ℕ) → 21844 ≤ length w → Collects w (Len n) xs → Is w (length w - 21844) (length w - 21844 + n) xs
+collects-is : (w : List ℕ) (n : ℕ) (xs : List ℕ) → endPart ≤ length w → Collects w (Len n) xs → Is w (collectorAt (length w)) (collectorAt (length w) + n) xs
 unfolding Collects
 collects-is w n xs b h =
-    let a = length w - 21844 in
+    let a = collectorAt (length w) in
     record {
       lies = ap (drop a) (take-add a n w) ∙ drop-at (take a w) (take n (drop a w)) a (length-take-le a w (omega arith)) ∙ h .2;
       ends = omega (arith, h .0);
@@ -138,37 +142,37 @@ ends-long w z = record {
 }
 
 -- ---- the stretches from here on
-module _ {q : List ℕ} {p e : ℕ} {r : Next} (k : NextPost q p e r) where
-  pub later-last : (w : List ℕ) {j : List ℕ} (s : Collector) (o : Ended) → r ≡ Next.End → 21844 ≤ length w → LastPost s o → LaterPost w w q p e j s o
+module _ {q : List ℕ} {p : Span} {r : Next} (k : NextPost q p r) where
+  pub later-last : (w : List ℕ) {j : List ℕ} (s : Collector) (o : Ended) → r ≡ Next.End → endPart ≤ length w → LastPost s o → LaterPost w w q p j s o
   unfolding stages
   later-last w s o z b f st ss us h a d =
       subst (λ l. EndedIs w o (stages us l st)) (sym (k ss (d .stages-is) .none z)) (f w st b h)
 
-  pub later-large : (w : List ℕ) {j : List ℕ} {s : Collector} → s ≡ Large → LaterPost w w q p e j s Ended.Large
+  pub later-large : (w : List ℕ) {j : List ℕ} {s : Collector} → s ≡ Large → LaterPost w w q p j s Ended.Large
   later-large w z st ss us h a d =
       ends-large w (ap (stages us (behind ss)) (shown-large w st (subst (λ y. Shows w y st) z h)) ∙ stages-large us (behind ss))
 
-  module _ {f t g u m : ℕ} (z : r ≡ Next.Group f t g u m) where
-    here : (ss : List Stage) → Is q p e (stagesBytes ss) → GroupIs q p e ss f t g u m
-    here ss h = k ss h .group-is f t g u m z
+  module _ {at : StretchAt} (z : r ≡ Next.Group at) where
+    here : (ss : List Stage) → IsAt q p (stagesBytes ss) → StretchIs q p ss at
+    here ss h = k ss h .group-is at z
 
-    pub later-places : {j : List ℕ} (ss : List Stage) (us : List Tree) → Planned q p e j ss us → (p + 3 ≤ m) × (m ≤ e)
-    later-places ss us d = let x = here ss (d .stages-is) in (x .after, x .within)
+    pub later-places : {j : List ℕ} (ss : List Stage) (us : List Tree) → Planned q p j ss us → (p .from + 3 ≤ at .next .from) × (at .next .from ≤ at .next .to) × (at .next .to ≡ p .to)
+    later-places ss us d = let x = here ss (d .stages-is) in (x .after, x .within, x .end)
 
-    module _ {j : List ℕ} (ss : List Stage) (us : List Tree) (d : Planned q p e j ss us) where
-      abbrev part : GroupIs q p e ss f t g u m
+    module _ {j : List ℕ} (ss : List Stage) (us : List Tree) (d : Planned q p j ss us) where
+      abbrev part : StretchIs q p ss at
       part = here ss (d .stages-is)
 
       oks : All OkS (group (part .aggregates) (part .grouping) ∷ part .others)
       oks = subst (All OkS) (part .same) (behind-ok ss (d .stages-ok))
 
-      pairs-of : Pairs q f t g u (part .aggregates) (part .grouping)
+      pairs-of : Pairs q (at .group) (part .aggregates) (part .grouping)
       pairs-of = record { aggregates-ok = oks .0 .0; aggregates-is = part .aggregates-is; grouping-ok = oks .0 .1; grouping-is = part .grouping-is }
 
-      planned-of : Planned q m e j (part .others) us
+      planned-of : Planned q (at .next) j (part .others) us
       planned-of = record { stages-ok = oks .1; stages-is = part .others-is; joined-ok = d .joined-ok; joined-is = d .joined-is }
 
-      few-of : length ss ≤ stagesMax → length (part .others) ≤ 7
+      few-of : length ss ≤ stagesMax → length (part .others) < stagesMax
       few-of b =
           let a : length (behind ss) ≡ suc (length (part .others)) = ap length (part .same) in
           omega (arith, shorter ss .1)
@@ -199,7 +203,7 @@ module _ {q : List ℕ} {p e : ℕ} {r : Next} (k : NextPost q p e r) where
           go long y = tt
 
     -- an array that is too long enters it
-    pub later-long : (w : List ℕ) {j : List ℕ} {s : Collector} → s ≡ Over → LaterPost w w q p e j s Ended.Long
+    pub later-long : (w : List ℕ) {j : List ℕ} {s : Collector} → s ≡ Over → LaterPost w w q p j s Ended.Long
     later-long w y st ss us h a d =
         let x = shown-over w st (subst (λ l. Shows w l st) y h) in
         let c = part ss us d in
@@ -216,14 +220,14 @@ module _ {q : List ℕ} {p e : ℕ} {r : Next} (k : NextPost q p e r) where
       held-short : (st : State) (h : Shows w s st) → arraySize (held st h .trees) ≤ arrayMax
       held-short st h = omega (arith, size-is (held st h .trees), collects-short w n (arrayTrees (held st h .trees)) (held st h .collects))
 
-      module _ {j : List ℕ} (l : LaterReady w q p e j s) where
+      module _ {j : List ℕ} (l : LaterReady w q p j s) where
         abbrev ss₀ : List Stage
         ss₀ = l .list
 
         abbrev us₀ : List Tree
         us₀ = l .joined
 
-        pub later-held : HeldReady w n q f t g u m e j
+        pub later-held : HeldReady w n q at j
         later-held =
             let x = held (l .state) (l .shown) in
             let c = part ss₀ us₀ (l .planned) in
@@ -238,18 +242,18 @@ module _ {q : List ℕ} {p e : ℕ} {r : Next} (k : NextPost q p e r) where
               list = c .others;
               joined = us₀;
               planned = planned-of ss₀ us₀ (l .planned);
-              room = omega (arith, before-short (c .others), l .size);
+              room = omega (arith, group-fits (length (before (c .others))) (omega (arith, before-short (c .others))), l .size);
               small = omega (arith, l .size);
             }
 
-        module _ {x : List ℕ} {o : Collector} (b : length x ≡ length w) (i : HeldPost w x n q f t g u m e j o) where
-          shown : (st : State) (ss : List Stage) (us : List Tree) (h : Shows w s st) → Allows st → (d : Planned q p e j ss us) → Shows x o (next-state ss us d (held st h .trees))
+        module _ {x : List ℕ} {o : Collector} (b : length x ≡ length w) (i : HeldPost w x n q at j o) where
+          shown : (st : State) (ss : List Stage) (us : List Tree) (h : Shows w s st) → Allows st → (d : Planned q p j ss us) → Shows x o (next-state ss us d (held st h .trees))
           unfolding next-state
           shown st ss us h a d =
               i (part ss us d .aggregates) (part ss us d .grouping) (held st h .trees) (part ss us d .others) us
               (pairs-of ss us d) (held-allowed st h a) (held st h .collects) (planned-of ss us d)
 
-          pub later-ready : LaterReady x q m e j o
+          pub later-ready : LaterReady x q (at .next) j o
           later-ready = record {
             state = next-state ss₀ us₀ (l .planned) (held (l .state) (l .shown) .trees);
             shown = shown (l .state) ss₀ us₀ (l .shown) (l .allowed) (l .planned);
@@ -261,7 +265,7 @@ module _ {q : List ℕ} {p e : ℕ} {r : Next} (k : NextPost q p e r) where
             size = b ∙ l .size;
           }
 
-          pub later-next : {x2 : List ℕ} {o2 : Ended} → LaterPost x x2 q m e j o o2 → LaterPost w x2 q p e j s o2
+          pub later-next : {x2 : List ℕ} {o2 : Ended} → LaterPost x x2 q (at .next) j o o2 → LaterPost w x2 q p j s o2
           later-next {x2} {o2} c st ss us h a d =
               let ts = held st h .trees in
               subst (λ y2. EndedIs x2 o2 y2)
@@ -270,11 +274,11 @@ module _ {q : List ℕ} {p e : ℕ} {r : Next} (k : NextPost q p e r) where
               (next-allows ss us d ts (held-allowed st h a) (held-short st h)) (planned-of ss us d))
 
 -- ---- the collected array is moved to the front
-module _ {w : List ℕ} {n : ℕ} {q : List ℕ} {f u g h m e : ℕ} {j : List ℕ} (r : HeldReady w n q f u g h m e j) where
-  pub held-bounds : (n ≤ treesMax) × (49832 ≤ length w)
+module _ {w : List ℕ} {n : ℕ} {q : List ℕ} {at : StretchAt} {j : List ℕ} (r : HeldReady w n q at j) where
+  pub held-bounds : (n ≤ treesMax) × (groupMin ≤ length w)
   held-bounds = (collects-short w n (arrayTrees (r .trees)) (r .collects) .0, omega (arith, r .room))
 
-  module _ {x : List ℕ} (l : length x ≡ length w) (from : ℕ) (z : from ≡ length w - 21844)
+  module _ {x : List ℕ} (l : length x ≡ length w) (from : ℕ) (z : from ≡ collectorAt (length w))
       (k : Wrote w x 0 (length w) (take (from + n - from) (drop from w)) (At (0 + (from + n - from)))) where
     moved : (ts : List Tree) → AllowedA ts → Collects w (Len n) (arrayTrees ts) → Gathered x n ts
     unfolding Collects
@@ -288,7 +292,7 @@ module _ {w : List ℕ} {n : ℕ} {q : List ℕ} {f u g h m e : ℕ} {j : List �
           trees-is = subst (λ i2. Is x 0 i2 (arrayTrees ts)) d (subst (λ xs. Is x 0 (0 + (from + n - from)) xs) (ap (λ i2. take i2 (drop from w)) y ∙ b) i);
         }
 
-    pub held-group : GroupReady x n q f u g h m e j
+    pub held-group : GroupReady x n q at j
     held-group = record {
       aggregates = r .aggregates;
       grouping = r .grouping;
@@ -303,5 +307,5 @@ module _ {w : List ℕ} {n : ℕ} {q : List ℕ} {f u g h m e : ℕ} {j : List �
       small = omega (arith, r .small);
     }
 
-    pub held-post : (x2 : List ℕ) (o : Collector) → GroupPost x x2 n q f u g h m e j o → HeldPost w x2 n q f u g h m e j o
+    pub held-post : (x2 : List ℕ) (o : Collector) → GroupPost x x2 n q at j o → HeldPost w x2 n q at j o
     held-post x2 o p ags gs ts ss us a b c d = p ags gs ts ss us a (moved ts b c) d

@@ -1,21 +1,25 @@
 -- What the functions of a stretch ask of the areas, and what they do: the trees of an array go through the stages up
 -- to the next group, or are grouped, and the trees of the classes go on so.
 use mathlib.Core.List.{List, []}
-use Prim.Native.Nat.{ℕ, _+_, _*_, _≤_}
+use Prim.Native.Nat.{ℕ, _+_, _≤_}
 use lib.ListN.{length}
-use Rattle.spec_trees.specs.Limits.{treeMax, aggregatesMax, groupingMax, workMin}
+use Rattle.spec_trees.specs.Limits.{aggregatesMax, groupingMax, workMin}
 use Rattle.spec_trees.specs.Lists.{each}
 use Rattle.spec_trees.specs.Tree.{Tree}
 use Rattle.spec_trees.specs.Within.{AllowedA}
-use Rattle.areas.specs.Area.{Is}
+use Rattle.areas.specs.Area.{Is, IsAt}
+use Rattle.areas.specs.declared.span.Span.{Span}
 use Rattle.spec_queries.specs.Query.{Pair, Stage}
 use Rattle.spec_queries.specs.Rules.{OkPairs}
 use Rattle.queries.specs.Places.{pairsBytes, arrayTrees, HoldsOk}
 use Rattle.spec_stages.specs.Group.{Class, classTree, grouped}
 use Rattle.spec_stages.specs.Stages.{State, going, after, stages}
+use Rattle.queries.specs.declared.stage.GroupAt.{GroupAt}
 use Rattle.stream.specs.declared.collector.Collector.{Collector}
+use Rattle.stretches.specs.declared.next.StretchAt.{StretchAt}
 use Rattle.spec_stages.specs.Stretch.{before}
-use Rattle.stream.specs.Collector.{treesMax, Fed}
+use Rattle.stream.specs.Map.{treesMax, rooms, tailMin, groupMin}
+use Rattle.stream.specs.Collector.{Fed}
 use Rattle.stream.specs.Feed.{Planned}
 
 -- the collector at the end of v has just the trees of the state
@@ -23,46 +27,46 @@ pub record Shows (v : List ℕ) (r : Collector) (st : State) : Type 0 where
   pub fed : Fed v r [] st
 
 -- ---- the first stretch
--- the trees of the input stand in i behind its head, stages in q from p to e, the joined trees in j
-pub record FirstReady (i w q : List ℕ) (p e : ℕ) (j : List ℕ) : Type 0 where
+-- the trees of the input stand in i behind its head, stages in q, the joined trees in j
+pub record FirstReady (i w q : List ℕ) (stagesAt : Span) (j : List ℕ) : Type 0 where
   pub input : HoldsOk AllowedA arrayTrees i 3 (length i)
   pub list : List Stage
   pub joined : List Tree
-  pub planned : Planned q p e j list joined
-  pub room : treeMax * length (before list) + 27988 ≤ length w
+  pub planned : Planned q stagesAt j list joined
+  pub room : rooms (length (before list)) + tailMin ≤ length w
   pub small : length w ≤ workMin
 
 -- whatever trees and stages stand there, what leaves the stretch was collected
-abbrev pub FirstPost : (i v q : List ℕ) (p e : ℕ) (j : List ℕ) → Collector → Type 0
-FirstPost i v q p e j r = (ts : List Tree) (ss : List Stage) (us : List Tree) → AllowedA ts → Is i 3 (length i) (arrayTrees ts) → Planned q p e j ss us
-    → Shows v r (stages us (before ss) (going ts))
+abbrev pub FirstPost : (i v q : List ℕ) (stagesAt : Span) (j : List ℕ) → Collector → Type 0
+FirstPost i v q stagesAt j r = (ts : List Tree) (ss : List Stage) (us : List Tree)
+    → AllowedA ts → Is i 3 (length i) (arrayTrees ts) → Planned q stagesAt j ss us → Shows v r (stages us (before ss) (going ts))
 
 -- ---- a group and the stages behind it
--- the group's pairs, in q: aggregates from f to u, grouping pairs from g to h
-pub record Pairs (q : List ℕ) (f u g h : ℕ) (ags gs : List Pair) : Type 0 where
+-- the group's pairs, in q: aggregates and grouping pairs
+pub record Pairs (q : List ℕ) (at : GroupAt) (ags gs : List Pair) : Type 0 where
   pub aggregates-ok : OkPairs aggregatesMax ags
-  pub aggregates-is : Is q f u (pairsBytes ags)
+  pub aggregates-is : IsAt q (at .aggregates) (pairsBytes ags)
   pub grouping-ok : OkPairs groupingMax gs
-  pub grouping-is : Is q g h (pairsBytes gs)
+  pub grouping-is : IsAt q (at .keys) (pairsBytes gs)
 
 -- the trees of an array, in w up to n
 pub record Gathered (w : List ℕ) (n : ℕ) (ts : List Tree) : Type 0 where
   pub allowed : AllowedA ts
   pub trees-is : Is w 0 n (arrayTrees ts)
 
--- such pairs and trees, and the stages behind the group, from m to e; there is room for the array and the numbers
+-- such pairs and trees, and the stages behind the group; there is room for the array and the numbers
 -- behind it, for a tree at each of the stages, for building and for the collector
-pub record GroupReady (w : List ℕ) (n : ℕ) (q : List ℕ) (f u g h m e : ℕ) (j : List ℕ) : Type 0 where
+pub record GroupReady (w : List ℕ) (n : ℕ) (q : List ℕ) (at : StretchAt) (j : List ℕ) : Type 0 where
   pub aggregates : List Pair
   pub grouping : List Pair
-  pub pairs : Pairs q f u g h aggregates grouping
+  pub pairs : Pairs q (at .group) aggregates grouping
   pub trees : List Tree
   pub gathered : Gathered w n trees
   pub short : n ≤ treesMax
   pub list : List Stage
   pub joined : List Tree
-  pub planned : Planned q m e j list joined
-  pub room : treeMax * length (before list) + 49832 ≤ length w
+  pub planned : Planned q (at .next) j list joined
+  pub room : rooms (length (before list)) + groupMin ≤ length w
   pub small : length w ≤ workMin
 
 -- what the trees of these classes become in the stages up to the next group
@@ -70,6 +74,6 @@ unfoldable pub through : List Tree → List Stage → List Pair → List Pair �
 through us ss ags gs cs = stages us (before ss) (after (each (classTree ags gs) cs))
 
 -- whatever stands there, what leaves the stretch was collected
-abbrev pub GroupPost : (w v : List ℕ) (n : ℕ) (q : List ℕ) (f u g h m e : ℕ) (j : List ℕ) → Collector → Type 0
-GroupPost w v n q f u g h m e j r = (ags gs : List Pair) (ts : List Tree) (ss : List Stage) (us : List Tree) → Pairs q f u g h ags gs → Gathered w n ts → Planned q m e j ss us
-    → Shows v r (through us ss ags gs (grouped gs ts))
+abbrev pub GroupPost : (w v : List ℕ) (n : ℕ) (q : List ℕ) (at : StretchAt) (j : List ℕ) → Collector → Type 0
+GroupPost w v n q at j r = (ags gs : List Pair) (ts : List Tree) (ss : List Stage) (us : List Tree)
+    → Pairs q (at .group) ags gs → Gathered w n ts → Planned q (at .next) j ss us → Shows v r (through us ss ags gs (grouped gs ts))

@@ -1,123 +1,124 @@
 //! A group and the stages behind it: the classes are found subset by subset, one tree of the array after another, and
 //! the tree of each goes on as soon as it is built. No list of classes is kept. The array's trees stand in the first
-//! n bytes of the work area. The tree of a class is built behind the 21,844 bytes that an array may take with what is
-//! reserved behind it; there the tail begins that is lent to the stages. Of `<'a>`: see crate `paths`'s `equality`.
-ghost use Rattle.queries.specs.Places.{pairsBytes, HoldsOk};
+//! `len` bytes of the work area. The tree of a class is built behind the front part, `Map::FRONT` bytes, which an array
+//! may take with what is reserved behind it; there the tail begins that is lent to the stages. Of `<'a>`: see crate
+//! `paths`'s `equality`.
+ghost use Rattle.queries.specs.Places.{pairsBytes, OkAt};
 ghost use Rattle.group.specs.Keys.{FewPairs};
 ghost use Rattle.stretches.specs.Stretch.{GroupReady, GroupPost};
-ghost use Rattle.stretches.specs.Grouping.{SubsetsIs, ClassFrom, ClassFed, SubsetReady, SubsetFed};
+ghost use Rattle.stretches.specs.Grouping.{SubsetsIs, ClassFromFirst, ClassFedFirst, SubsetReady, SubsetFed};
+use crate::next::StretchAt;
 use areas::area::Out;
 use areas::area::field_end;
+use areas::span::Span;
 use group::class::class_tree;
 use group::first::begins;
 use stream::collector::Collector;
-use stream::collector::Map;
 use stream::collector::is_large;
 use stream::feed::feed;
+use stream::map::Map;
 
-/// How many subsets the grouping pairs from g to h have: 2 for each pair, multiplied.
-fn subsets(q: &[u8], g: usize, h: usize) -> usize
-    requires { ⌜ HoldsOk FewPairs pairsBytes (now q) g h ⌝ }
-    ensures { λ r. ⌜ SubsetsIs (now (q .entry)) g h r ⌝ }
+/// How many subsets the grouping pairs have: 2 for each pair, multiplied.
+fn subsets(query: &[u8], keys: Span) -> usize
+    requires { ⌜ OkAt FewPairs pairsBytes (now query) keys ⌝ }
+    ensures { λ r. ⌜ SubsetsIs (now (query .entry)) keys r ⌝ }
 {
+    let end = keys.to;
     let mut n: usize = 1;
-    let mut at = g;
-    while at != h {
+    let mut at = keys.from;
+    while at != end {
         n = n + n;
-        at = field_end(q, at);
+        at = field_end(query, at);
     }
     n
 }
 
-/// The class of the subset k that begins at the tree from x to xe, if one does: its tree is built and goes through
-/// the stages.
+/// The class of the subset that begins at the first of these trees of the array, if one does: its tree is built and
+/// goes through the stages.
 fn feed_class<'a>(
-    w: &mut [u8],
-    n: usize,
-    x: usize,
-    xe: usize,
-    q: &'a [u8],
-    f: usize,
-    u: usize,
-    g: usize,
-    h: usize,
-    k: usize,
-    m: usize,
-    e: usize,
-    j: &'a [u8],
-    s: Collector,
+    work: &mut [u8],
+    trees: Span,
+    query: &'a [u8],
+    at: StretchAt,
+    subset: usize,
+    joined: &'a [u8],
+    collector: Collector,
 ) -> Collector
-    requires { ⌜ ClassFrom (now w) n (now q) f u g h m e (now j) x xe s ⌝ }
-    ensures { λ r. ⌜ ClassFed (now (w .entry)) (now (w .exit)) n (now (q .entry)) f u g h k m e (now (j .entry)) x xe s r ⌝ }
+    requires { ⌜ ClassFromFirst (now work) trees (now query) at (now joined) collector ⌝ }
+    ensures { λ r. ⌜ ClassFedFirst (now (work .entry)) (now (work .exit)) trees (now (query .entry)) at subset (now (joined .entry)) collector r ⌝ }
 {
-    if !begins(w, q, g, h, 0, x, xe, k) {
-        return s;
+    let from = trees.from;
+    let first = Span {
+        from,
+        to: field_end(work, from),
+    };
+    let group = at.group;
+    if !begins(work, query, group.keys, first, subset) {
+        return collector;
     }
-    let out = class_tree(w, q, f, u, g, h, x, xe, n, Map::FRONT);
+    let out = class_tree(work, query, group, first, trees.to, Map::FRONT);
     let Out::At(o) = out else {
         return Collector::Large;
     };
-    feed(&mut w[Map::FRONT..], o - Map::FRONT, q, m, e, j, s)
+    feed(
+        &mut work[Map::FRONT..],
+        o - Map::FRONT,
+        query,
+        at.next,
+        joined,
+        collector,
+    )
 }
 
-/// The classes of the subset k, in the order of their first trees.
+/// The classes of the subset, in the order of their first trees.
 fn feed_subset<'a>(
-    w: &mut [u8],
-    n: usize,
-    q: &'a [u8],
-    f: usize,
-    u: usize,
-    g: usize,
-    h: usize,
-    k: usize,
-    m: usize,
-    e: usize,
-    j: &'a [u8],
-    s: Collector,
+    work: &mut [u8],
+    len: usize,
+    query: &'a [u8],
+    at: StretchAt,
+    subset: usize,
+    joined: &'a [u8],
+    collector: Collector,
 ) -> Collector
-    requires { ⌜ SubsetReady (now w) n (now q) f u g h m e (now j) s ⌝ }
-    ensures { λ r. ⌜ SubsetFed (now (w .entry)) (now (w .exit)) n (now (q .entry)) f u g h k m e (now (j .entry)) s r ⌝ }
+    requires { ⌜ SubsetReady (now work) len (now query) at (now joined) collector ⌝ }
+    ensures { λ r. ⌜ SubsetFed (now (work .entry)) (now (work .exit)) len (now (query .entry)) at subset (now (joined .entry)) collector r ⌝ }
 {
-    let mut collector = s;
-    let mut x = 0;
-    while x != n {
-        let xe = field_end(w, x);
-        collector = feed_class(w, n, x, xe, q, f, u, g, h, k, m, e, j, collector);
-        if is_large(collector) {
+    let mut held = collector;
+    let mut from = 0;
+    while from != len {
+        let m = field_end(work, from);
+        let trees = Span { from, to: len };
+        held = feed_class(work, trees, query, at, subset, joined, held);
+        if is_large(held) {
             return Collector::Large;
         }
-        x = xe;
+        from = m;
     }
-    collector
+    held
 }
 
-/// A group and the stages behind it, over the array whose trees stand in the first n bytes: its classes, subset by
-/// subset. The aggregates stand in q from f to u, the grouping pairs from g to h, the stages from m to e; j is the
-/// joined array.
+/// A group and the stages behind it, over the array whose trees stand in the first `len` bytes: its classes, subset by
+/// subset.
 pub fn regroup<'a>(
-    w: &mut [u8],
-    n: usize,
-    q: &'a [u8],
-    f: usize,
-    u: usize,
-    g: usize,
-    h: usize,
-    m: usize,
-    e: usize,
-    j: &'a [u8],
+    work: &mut [u8],
+    len: usize,
+    query: &'a [u8],
+    at: StretchAt,
+    joined: &'a [u8],
 ) -> Collector
-    requires { ⌜ GroupReady (now w) n (now q) f u g h m e (now j) ⌝ }
-    ensures { λ r. ⌜ GroupPost (now (w .entry)) (now (w .exit)) n (now (q .entry)) f u g h m e (now (j .entry)) r ⌝ }
+    requires { ⌜ GroupReady (now work) len (now query) at (now joined) ⌝ }
+    ensures { λ r. ⌜ GroupPost (now (work .entry)) (now (work .exit)) len (now (query .entry)) at (now (joined .entry)) r ⌝ }
 {
-    let total = subsets(q, g, h);
-    let mut collector = Collector::Len(0);
+    let group = at.group;
+    let total = subsets(query, group.keys);
+    let mut held = Collector::Len(0);
     let mut k = 0;
     while k != total {
-        collector = feed_subset(w, n, q, f, u, g, h, k, m, e, j, collector);
-        if is_large(collector) {
+        held = feed_subset(work, len, query, at, k, joined, held);
+        if is_large(held) {
             return Collector::Large;
         }
         k += 1;
     }
-    collector
+    held
 }

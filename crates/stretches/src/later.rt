@@ -3,57 +3,61 @@ ghost use Rattle.stretches.specs.Later.{LastPost, HeldReady, HeldPost, L
 use crate::ended::Ended;
 use crate::group_stretch::regroup;
 use crate::next::Next;
+use crate::next::StretchAt;
 use crate::next::next_group;
 use areas::area::move_down;
+use areas::span::Span;
 use stream::collector::Collector;
-use stream::collector::Map;
+use stream::map::Map;
 
 /// How a run ends whose last stretch left this in the collector.
-fn last(s: Collector) -> Ended
-    ensures { λ r. ⌜ LastPost s r ⌝ }
+fn last(collector: Collector) -> Ended
+    ensures { λ r. ⌜ LastPost collector r ⌝ }
 {
-    match s {
+    match collector {
         Collector::Len(n) => Ended::Held(n),
         Collector::Over => Ended::Full,
         Collector::Large => Ended::Large,
     }
 }
 
-/// The collected array, of whose trees there are n bytes, is moved to the front, and grouped there.
+/// The collected array, of whose trees there are `len` bytes, is moved to the front, and grouped there.
 fn next_stretch<'a>(
-    w: &mut [u8],
-    n: usize,
-    q: &'a [u8],
-    f: usize,
-    u: usize,
-    g: usize,
-    h: usize,
-    m: usize,
-    e: usize,
-    j: &'a [u8],
+    work: &mut [u8],
+    len: usize,
+    query: &'a [u8],
+    at: StretchAt,
+    joined: &'a [u8],
 ) -> Collector
-    requires { ⌜ HeldReady (now w) n (now q) f u g h m e (now j) ⌝ }
-    ensures { λ r. ⌜ HeldPost (now (w .entry)) (now (w .exit)) n (now (q .entry)) f u g h m e (now (j .entry)) r ⌝ }
+    requires { ⌜ HeldReady (now work) len (now query) at (now joined) ⌝ }
+    ensures { λ r. ⌜ HeldPost (now (work .entry)) (now (work .exit)) len (now (query .entry)) at (now (joined .entry)) r ⌝ }
 {
-    let from = w.len() - Map::END;
-    move_down(w, from, from + n, 0);
-    regroup(w, n, q, f, u, g, h, m, e, j)
+    let from = work.len() - Map::END;
+    let to = from + len;
+    move_down(work, Span { from, to }, 0);
+    regroup(work, len, query, at, joined)
 }
 
-/// All stretches from the next group on, of the stages that stand in q from p to e. An array that is too long is
-/// refused only here, where it enters a group: every tree before it has passed, so none of them was too large.
-pub fn later<'a>(w: &mut [u8], q: &'a [u8], p: usize, e: usize, j: &'a [u8], s: Collector) -> Ended
-    requires { ⌜ LaterReady (now w) (now q) p e (now j) s ⌝ }
-    ensures { λ r. ⌜ LaterPost (now (w .entry)) (now (w .exit)) (now (q .entry)) p e (now (j .entry)) s r ⌝ }
+/// All stretches from the next group on. An array that is too long is refused only here, where it enters a group: every
+/// tree before it has passed, so none of them was too large.
+pub fn later<'a>(
+    work: &mut [u8],
+    query: &'a [u8],
+    stages: Span,
+    joined: &'a [u8],
+    collector: Collector,
+) -> Ended
+    requires { ⌜ LaterReady (now work) (now query) stages (now joined) collector ⌝ }
+    ensures { λ r. ⌜ LaterPost (now (work .entry)) (now (work .exit)) (now (query .entry)) stages (now (joined .entry)) collector r ⌝ }
 {
-    let next = next_group(q, p, e);
-    let Next::Group(f, u, g, h, m) = next else {
-        return last(s);
+    let next = next_group(query, stages);
+    let Next::Group(at) = next else {
+        return last(collector);
     };
-    match s {
+    match collector {
         Collector::Len(n) => {
-            let r = next_stretch(w, n, q, f, u, g, h, m, e, j);
-            later(w, q, m, e, j, r)
+            let r = next_stretch(work, n, query, at, joined);
+            later(work, query, at.next, joined, r)
         }
         Collector::Over => Ended::Long,
         Collector::Large => Ended::Large,

@@ -1,40 +1,49 @@
 //! The next group of a query's stages: a stretch ends before it.
 ghost use mathlib.Core.Path.{_≡_};
-ghost use Rattle.format.specs.Stand.{Holds};
-ghost use Rattle.queries.specs.Places.{stagesBytes};
+ghost use Rattle.queries.specs.Places.{HoldsAt, stagesBytes};
 ghost use Rattle.stretches.specs.Next.{groupOf, NextPost};
 use areas::area::field_end;
+use areas::span::Span;
+use queries::stage::GroupAt;
 use queries::stage::StageAt;
 use queries::stage::stage_at;
 
-/// The group's aggregates, its grouping pairs, and where the stages behind it begin; or there is no group.
+/// A group's pairs, and the stages behind it.
+pub struct StretchAt {
+    pub group: GroupAt,
+    pub next: Span,
+}
+
+/// The next group with the stages behind it; or there is none.
 pub enum Next {
-    Group(usize, usize, usize, usize, usize),
+    Group(StretchAt),
     End,
 }
 
-/// The stage as a group, if it is one; m is where it ends.
-fn group_of(stage: StageAt, m: usize) -> Next
-    ensures { λ r. ⌜ r ≡ groupOf stage m ⌝ }
+/// The stage as a group, if it is one; `next` are the stages behind it.
+fn group_of(stage: StageAt, next: Span) -> Next
+    ensures { λ r. ⌜ r ≡ groupOf stage next ⌝ }
 {
     match stage {
-        StageAt::Match(_, _) => Next::End,
-        StageAt::Unwind(_, _) => Next::End,
-        StageAt::Project(_, _) => Next::End,
-        StageAt::Group(f, t, g, u) => Next::Group(f, t, g, u, m),
-        StageAt::Lookup(_, _, _, _, _, _) => Next::End,
+        StageAt::Match(_) => Next::End,
+        StageAt::Unwind(_) => Next::End,
+        StageAt::Project(_) => Next::End,
+        StageAt::Group(group) => Next::Group(StretchAt { group, next }),
+        StageAt::Lookup(_) => Next::End,
     }
 }
 
-/// The first group among the stages that stand in q from p to e.
-pub fn next_group(q: &[u8], p: usize, e: usize) -> Next
-    requires { ⌜ Holds stagesBytes (now q) p e ⌝ }
-    ensures { λ r. ⌜ NextPost (now (q .entry)) p e r ⌝ }
+/// The first group among the stages.
+pub fn next_group(query: &[u8], stages: Span) -> Next
+    requires { ⌜ HoldsAt stagesBytes (now query) stages ⌝ }
+    ensures { λ r. ⌜ NextPost (now (query .entry)) stages r ⌝ }
 {
-    let mut at = p;
-    while at != e {
-        let m = field_end(q, at);
-        let next = group_of(stage_at(q, at, m), m);
+    let to = stages.to;
+    let mut at = stages.from;
+    while at != to {
+        let m = field_end(query, at);
+        let stage = stage_at(query, Span { from: at, to: m });
+        let next = group_of(stage, Span { from: m, to });
         let Next::End = next else {
             return next;
         };

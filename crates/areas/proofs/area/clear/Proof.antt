@@ -13,16 +13,17 @@ use Rattle.areas.proofs.area.clear.Reads as reads
 use Rattle.areas.proofs.area.clear.Lts as lts
 
 abbrev Inv-loop : tie.InvT-loop
-Inv-loop w₀ i₀ w i = (i ≤ length w₀) × (length w ≡ length w₀) × (w ≡ replicate i 0 ++ drop i w₀)
+Inv-loop area₀ i₀ area i =
+    (i ≤ length area₀) × (length area ≡ length area₀) × (area ≡ replicate i 0 ++ drop i area₀)
 
 abbrev μ-loop : tie.MeasureT-loop
-μ-loop w₀ i₀ w i = length w₀ - i
+μ-loop area₀ i₀ area i = length area₀ - i
 
 loop-holds : tie.Need-loop-holds Inv-loop μ-loop
 loop-holds c = (omega arith, refl, refl)
 
-slice-write-w : tie.Need-slice-write-w Inv-loop μ-loop
-slice-write-w c = search needs
+slice-write-area : tie.Need-slice-write-area Inv-loop μ-loop
+slice-write-area c = search needs
 
 add-i : tie.Need-add-i Inv-loop μ-loop
 add-i c = search needs
@@ -35,7 +36,7 @@ loop-again c = (
   omega arith,
   simp length-set (c .before .loop .inv .1),
   ap (λ x. set x (c .before .loop .i) 0) (c .before .loop .inv .2) ∙ fill-more
-      (c .before .loop .i) 0 (c .before .before .args .w .now) (omega arith),
+      (c .before .loop .i) 0 (c .before .before .args .area .now) (omega arith),
 )
 
 same-length : tie.Need-same-length Inv-loop μ-loop
@@ -43,7 +44,7 @@ same-length c = search needs
 
 returns : tie.Need-returns Inv-loop μ-loop
 returns c =
-    c .before .loop .inv .2 ∙ cleared (c .before .before .args .w .now) (c .before .loop .i)
+    c .before .loop .inv .2 ∙ cleared (c .before .before .args .area .now) (c .before .loop .i)
     (omega arith)
 
 pub clear-spec : {M : Type 1} → statement M
@@ -53,7 +54,7 @@ clear-spec =
     Inv-loop
     μ-loop
     loop-holds
-    slice-write-w
+    slice-write-area
     add-i
     loop-less
     loop-again

@@ -12,38 +12,39 @@ use Rattle.areas.proofs.area.copy_in.Reads as reads
 use Rattle.areas.proofs.area.copy_in.Lts as lts
 
 abbrev Inv-loop : tie.InvT-loop
-Inv-loop w₀ src d stop j₀ w j = (j ≤ length src) × (length w ≡ length w₀) × (w ≡ paste w₀ d src j)
+Inv-loop work₀ source from i₀ work i =
+    (i ≤ length source) × (length work ≡ length work₀) × (work ≡ paste work₀ from source i)
 
 abbrev μ-loop : tie.MeasureT-loop
-μ-loop w₀ src d stop j₀ w j = length src - j
+μ-loop work₀ source from i₀ work i = length source - i
 
 sub-if1 : tie.Need-sub-if1 Inv-loop μ-loop
 sub-if1 c = search needs
 
 returns : tie.Need-returns Inv-loop μ-loop
 returns c =
-    no-room (c .before .args .w .now) (c .before .args .d) (c .before .args .stop)
-    (c .before .args .src .now) (omega arith)
+    no-room (c .before .before .args .work .now) (c .before .before .args .room .from)
+    (c .before .before .args .room .to) (c .before .before .args .source .now) (omega arith)
 
 loop-holds : tie.Need-loop-holds Inv-loop μ-loop
 loop-holds c = (
   omega arith,
   refl,
-  paste-zero (c .before .args .w .now) (c .before .args .d)
-      (c .before .args .src .now),
+  paste-zero (c .before .before .args .work .now)
+      (c .before .before .args .room .from) (c .before .before .args .source .now),
 )
 
-shared-slice-read-w : tie.Need-shared-slice-read-w Inv-loop μ-loop
-shared-slice-read-w c = search needs
+shared-slice-read-work : tie.Need-shared-slice-read-work Inv-loop μ-loop
+shared-slice-read-work c = search needs
 
-add-w : tie.Need-add-w Inv-loop μ-loop
-add-w c = search needs
+add-work : tie.Need-add-work Inv-loop μ-loop
+add-work c = search needs
 
-slice-write-w : tie.Need-slice-write-w Inv-loop μ-loop
-slice-write-w c = search needs
+slice-write-work : tie.Need-slice-write-work Inv-loop μ-loop
+slice-write-work c = search needs
 
-add-j : tie.Need-add-j Inv-loop μ-loop
-add-j c = search needs
+add-i : tie.Need-add-i Inv-loop μ-loop
+add-i c = search needs
 
 loop-less : tie.Need-loop-less Inv-loop μ-loop
 loop-less c = search needs
@@ -52,13 +53,14 @@ loop-again : tie.Need-loop-again Inv-loop μ-loop
 loop-again c = (
   omega arith,
   simp length-set (c .before .before .loop .inv .1),
-  ap (λ x. set x (c .before .before .before .before .args .d + c .before .before .loop .j)
-      (getD (c .before .before .before .before .args .src .now) (c .before .before .loop .j) 0))
-      (c .before .before .loop .inv .2) ∙ paste-more
-      (c .before .before .before .before .args .w .now)
-      (c .before .before .before .before .args .src .now)
-      (c .before .before .before .before .args .d) (c .before .before .loop .j) (omega arith)
-      (omega arith),
+  ap (λ x. set x (c .before .before .before .before .before .args .room .from +
+      c .before .before .loop .i)
+      (getD (c .before .before .before .before .before .args .source .now)
+      (c .before .before .loop .i) 0)) (c .before .before .loop .inv .2) ∙ paste-more
+      (c .before .before .before .before .before .args .work .now)
+      (c .before .before .before .before .before .args .source .now)
+      (c .before .before .before .before .before .args .room .from) (c .before .before .loop .i)
+      (omega arith) (omega arith),
 )
 
 add-t7 : tie.Need-add-t7 Inv-loop μ-loop
@@ -69,12 +71,16 @@ same-length c = search needs
 
 returns-2 : tie.Need-returns-2 Inv-loop μ-loop
 returns-2 c =
-    let q : c .before .loop .j ≡ length (c .before .before .before .args .src .now) = omega arith in
-    pasted (c .before .before .before .args .w .now) (c .before .before .before .args .src .now)
-    (c .before .before .before .args .d) (c .before .before .before .args .stop) (omega arith)
-    (omega arith) refl (c .before .loop .inv .2 ∙ ap
-    (λ m. paste (c .before .before .before .args .w .now) (c .before .before .before .args .d)
-    (c .before .before .before .args .src .now) m) q)
+    let q : c .before .loop .i ≡ length (c .before .before .before .before .args .source .now) =
+    omega arith in
+    pasted (c .before .before .before .before .args .work .now)
+    (c .before .before .before .before .args .source .now)
+    (c .before .before .before .before .args .room .from)
+    (c .before .before .before .before .args .room .to) (omega arith) (omega arith) refl
+    (c .before .loop .inv .2 ∙ ap
+    (λ m. paste (c .before .before .before .before .args .work .now)
+    (c .before .before .before .before .args .room .from)
+    (c .before .before .before .before .args .source .now) m) q)
 
 pub copy-in-spec : {M : Type 1} → statement M
 copy-in-spec =
@@ -85,10 +91,10 @@ copy-in-spec =
     sub-if1
     returns
     loop-holds
-    shared-slice-read-w
-    add-w
-    slice-write-w
-    add-j
+    shared-slice-read-work
+    add-work
+    slice-write-work
+    add-i
     loop-less
     loop-again
     add-t7

@@ -9,8 +9,8 @@ use Rattle.areas.proofs.area.emit.Reads as reads
 use Rattle.areas.proofs.area.emit.Lts as lts
 use Rattle.areas.proofs.area.copy_in.Reads as copy-in-reads
 
-sub-room : tie.Need-sub-room
-sub-room c = search needs
+sub-len : tie.Need-sub-len
+sub-len c = search needs
 
 sub-copy-in : tie.Need-sub-copy-in
 sub-copy-in c = search needs
@@ -35,7 +35,7 @@ same-length c = search needs
 
 returns : tie.Need-returns
 returns c =
-    wrote-tail (c .before .before .before .before .before .before .before .before .args .res .now)
+    wrote-tail (c .before .before .before .before .before .before .before .before .args .result .now)
     (c .before .before .before .before .copy-in .last .0)
     (c .before .before .before .before .before .before .before .before .args .at)
     (c .before .before .before .before .before .before .before .before .pre) TooLarge
@@ -54,7 +54,7 @@ same-length-2 c = search needs
 
 returns-2 : tie.Need-returns-2
 returns-2 c =
-    wrote-tail (c .before .before .before .before .before .before .before .before .before .args .res .now)
+    wrote-tail (c .before .before .before .before .before .before .before .before .before .args .result .now)
     (c .before .before .before .before .before .copy-in .last .0)
     (c .before .before .before .before .before .before .before .before .before .args .at)
     (c .before .before .before .before .before .before .before .before .before .pre)
@@ -65,7 +65,7 @@ pub emit-spec : {M : Type 1} → statement M
 emit-spec =
     tie.close
     (tie.spec
-    sub-room
+    sub-len
     sub-copy-in
     part-copy-in-start
     part-copy-in-end

@@ -7,23 +7,23 @@ use Rattle.areas.proofs.area.finish.Reads as reads
 use Rattle.areas.proofs.area.finish.Lts as lts
 use Rattle.areas.proofs.area.put_head.Reads as put-head-reads
 
-enum-known-r : tie.Need-enum-known-r
-enum-known-r c = search needs
+enum-known-written : tie.Need-enum-known-written
+enum-known-written c = search needs
 
 enum-told : tie.Need-enum-told
 enum-told c = search needs
 
 returns : tie.Need-returns
 returns c =
-    finish-fail (c .before .before .before .args .w .now) (c .before .before .before .args .d)
+    finish-fail (c .before .before .before .args .work .now) (c .before .before .before .args .at)
     (c .before .before .before .args .tag) (c .enum-told .given .1)
 
 put-head-requires : tie.Need-put-head-requires
 put-head-requires c κs = (
-  (c .before .before .before .before .before .pre .0 (c .before .before .r .given .0 .0)
-      (c .before .before .r .given .1)) .0,
-  (c .before .before .before .before .before .pre .0 (c .before .before .r .given .0 .0)
-      (c .before .before .r .given .1)) .1,
+  (c .before .before .before .before .before .pre .0 (c .before .before .written .given .0 .0)
+      (c .before .before .written .given .1)) .0,
+  (c .before .before .before .before .before .pre .0 (c .before .before .written .given .0 .0)
+      (c .before .before .written .given .1)) .1,
   c .before .before .before .before .before .pre .1,
 )
 
@@ -32,17 +32,19 @@ same-length c = search needs
 
 returns-2 : tie.Need-returns-2
 returns-2 c =
-    finish-at (c .before .before .before .before .before .before .before .before .args .w .now)
-    (c .before .before .before .before .before .before .before .before .args .d)
+    finish-at (c .before .before .before .before .before .before .before .before .args .work .now)
+    (c .before .before .before .before .before .before .before .before .args .at)
     (c .before .before .before .before .before .before .before .before .args .tag)
     ((c .before .before .before .before .before .before .before .before .pre .0
-    (c .before .before .before .before .before .r .given .0 .0)
-    (c .before .before .before .before .before .r .given .1)) .0)
+    (c .before .before .before .before .before .written .given .0 .0)
+    (c .before .before .before .before .before .written .given .1)) .0)
     ((c .before .before .before .before .before .before .before .before .pre .0
-    (c .before .before .before .before .before .r .given .0 .0)
-    (c .before .before .before .before .before .r .given .1)) .1)
-    (c .before .before .before .before .before .r .given .1) (c .before .before .put-head .ensures)
+    (c .before .before .before .before .before .written .given .0 .0)
+    (c .before .before .before .before .before .written .given .1)) .1)
+    (c .before .before .before .before .before .written .given .1)
+    (c .before .before .put-head .ensures)
 
 pub finish-spec : {M : Type 1} → statement M
 finish-spec =
-    tie.close (tie.spec enum-known-r enum-told returns put-head-requires same-length returns-2)
+    tie.close
+    (tie.spec enum-known-written enum-told returns put-head-requires same-length returns-2)

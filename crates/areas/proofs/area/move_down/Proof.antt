@@ -22,17 +22,18 @@ same-length c = search needs
 
 returns : tie.Need-returns
 returns c =
-    pasted (c .before .before .before .before .before .args .w .now)
-    (take (c .before .before .before .before .before .args .e -
-    c .before .before .before .before .before .args .i)
-    (drop (c .before .before .before .before .before .args .i)
-    (c .before .before .before .before .before .args .w .now)))
-    (c .before .before .before .before .before .args .d)
-    (length (c .before .before .before .before .before .args .w .now)) (omega arith) (omega arith)
-    (length-source (c .before .before .before .before .before .args .w .now)
-    (c .before .before .before .before .before .args .i)
-    (c .before .before .before .before .before .args .e -
-    c .before .before .before .before .before .args .i) (omega arith))
+    pasted (c .before .before .before .before .before .before .args .work .now)
+    (take (c .before .before .before .before .before .before .args .part .to -
+    c .before .before .before .before .before .before .args .part .from)
+    (drop (c .before .before .before .before .before .before .args .part .from)
+    (c .before .before .before .before .before .before .args .work .now)))
+    (c .before .before .before .before .before .before .args .to)
+    (length (c .before .before .before .before .before .before .args .work .now)) (omega arith)
+    (omega arith) (length-source
+    (c .before .before .before .before .before .before .args .work .now)
+    (c .before .before .before .before .before .before .args .part .from)
+    (c .before .before .before .before .before .before .args .part .to -
+    c .before .before .before .before .before .before .args .part .from) (omega arith))
     (c .before .before .carry .ensures)
 
 pub move-down-spec : {M : Type 1} → statement M

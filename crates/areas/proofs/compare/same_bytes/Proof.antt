@@ -17,22 +17,23 @@ use Rattle.areas.proofs.compare.same_bytes.Reads as reads
 use Rattle.areas.proofs.compare.same_bytes.Lts as lts
 
 abbrev Inv-loop : tie.InvT-loop
-Inv-loop a b i₀ i = (i ≤ length a) × (length a ≡ length b) × (drop i a ≡ drop i b)
+Inv-loop one other i₀ i =
+    (i ≤ length one) × (length one ≡ length other) × (drop i one ≡ drop i other)
 
 abbrev μ-loop : tie.MeasureT-loop
-μ-loop a b i₀ i = i
+μ-loop one other i₀ i = i
 
 returns : tie.Need-returns Inv-loop μ-loop
 returns c =
-    sym (same-lengths (c .before .args .a .now) (c .before .args .b .now)
+    sym (same-lengths (c .before .args .one .now) (c .before .args .other .now)
     (λ q. omega (arith, c .if1 .taken)))
 
 loop-holds : tie.Need-loop-holds Inv-loop μ-loop
 loop-holds c = (
   omega arith,
   omega (arith, c .if1 .left),
-  same-start (c .before .args .a .now)
-      (c .before .args .b .now) (omega (arith, c .if1 .left)),
+  same-start (c .before .args .one .now)
+      (c .before .args .other .now) (omega (arith, c .if1 .left)),
 )
 
 sub-j : tie.Need-sub-j Inv-loop μ-loop
@@ -46,8 +47,8 @@ shared-slice-read-if2-2 c = search needs
 
 returns-2 : tie.Need-returns-2 Inv-loop μ-loop
 returns-2 c =
-    sym (same-other (c .before .before .before .before .before .before .args .a .now)
-    (c .before .before .before .before .before .before .args .b .now)
+    sym (same-other (c .before .before .before .before .before .before .args .one .now)
+    (c .before .before .before .before .before .before .args .other .now)
     (c .before .before .before .before .loop .i - 1) (c .if2 .taken))
 
 loop-less : tie.Need-loop-less Inv-loop μ-loop
@@ -60,8 +61,8 @@ loop-again c =
     (arith, c .before .before .before .loop-test .taken) in (
       omega (arith, c .before .before .before .before .loop .inv .0),
       c .before .before .before .before .loop .inv .1,
-      same-back (c .before .before .before .before .before .before .args .a .now)
-          (c .before .before .before .before .before .before .args .b .now)
+      same-back (c .before .before .before .before .before .before .args .one .now)
+          (c .before .before .before .before .before .before .args .other .now)
           (c .before .before .before .before .loop .i - 1)
           (omega (
             arith,
@@ -75,18 +76,18 @@ loop-again c =
             c .before .before .before .loop-test .taken,
           ))
           (c .if2 .left)
-          (subst (λ n. drop n (c .before .before .before .before .before .before .args .a .now) ≡ drop n
-          (c .before .before .before .before .before .before .args .b .now)) z
+          (subst (λ n. drop n (c .before .before .before .before .before .before .args .one .now) ≡ drop
+          n (c .before .before .before .before .before .before .args .other .now)) z
           (c .before .before .before .before .loop .inv .2)),
     )
 
 returns-3 : tie.Need-returns-3 Inv-loop μ-loop
 returns-3 c =
     let z : c .before .loop .i ≡ 0 = omega (arith, c .loop-test .left) in
-    sym (equal-same (c .before .before .before .args .a .now)
-    (c .before .before .before .args .b .now)
-    (subst (λ n. drop n (c .before .before .before .args .a .now) ≡ drop n
-    (c .before .before .before .args .b .now)) z (c .before .loop .inv .2)))
+    sym (equal-same (c .before .before .before .args .one .now)
+    (c .before .before .before .args .other .now)
+    (subst (λ n. drop n (c .before .before .before .args .one .now) ≡ drop n
+    (c .before .before .before .args .other .now)) z (c .before .loop .inv .2)))
 
 pub same-bytes-spec : {M : Type 1} → statement M
 same-bytes-spec =

@@ -29,9 +29,9 @@ field-end-requires c κs =
       arith,
       tree-places
           (record {
-            value = c .before .before .pre .0 .part .tree;
+            value = c .before .before .before .pre .0 .part .tree;
             value-is =
-                c .before .before .pre .0 .part .tree-is;
+                c .before .before .before .pre .0 .part .tree-is;
           }) refl,
     )
 
@@ -39,9 +39,9 @@ sub-e : tie.Need-sub-e
 sub-e c =
     omega (
       arith,
-      (append-places (c .before .before .before .pre .0)
-          (c .before .before .before .pre .1) (c .before .before .before .pre .2) (c .field-end .ensures)
-          refl),
+      (append-places (c .before .before .before .before .before .pre .0)
+          (c .before .before .before .before .before .pre .1)
+          (c .before .before .before .before .before .pre .2) (c .before .field-end .ensures) refl),
     )
 
 add-e : tie.Need-add-e
@@ -55,32 +55,34 @@ same-length c = search needs
 
 returns : tie.Need-returns
 returns c =
-    append-large (c .before .before .before .before .pre .0)
-    (c .before .before .before .before .pre .1) (c .before .before .before .before .pre .2)
-    (c .before .field-end .ensures) refl (omega (arith, c .if1 .taken))
+    append-large (c .before .before .before .before .before .before .before .before .pre .0)
+    (c .before .before .before .before .before .before .before .before .pre .1)
+    (c .before .before .before .before .before .before .before .before .pre .2)
+    (c .before .before .before .before .field-end .ensures) refl (omega (arith, c .if1 .taken))
 
 move-down-requires : tie.Need-move-down-requires
 move-down-requires c κs = (
   omega (
     arith,
-    (append-places (c .before .before .before .before .before .pre .0)
-        (c .before .before .before .before .before .pre .1)
-        (c .before .before .before .before .before .pre .2) (c .before .before .field-end .ensures)
-        refl),
+    (append-places
+        (c .before .before .before .before .before .before .before .before .before .pre .0)
+        (c .before .before .before .before .before .before .before .before .before .pre .1)
+        (c .before .before .before .before .before .before .before .before .before .pre .2)
+        (c .before .before .before .before .before .field-end .ensures) refl),
   ),
   omega (
     arith,
-    (append-places (c .before .before .before .before .before .pre .0)
-        (c .before .before .before .before .before .pre .1)
-        (c .before .before .before .before .before .pre .2) (c .before .before .field-end .ensures)
-        refl),
+    (append-places (c .before .before .before .before .before .before .before .before .before .pre .0)
+        (c .before .before .before .before .before .before .before .before .before .pre .1)
+        (c .before .before .before .before .before .before .before .before .before .pre .2)
+        (c .before .before .before .before .before .field-end .ensures) refl),
   ),
   omega (
     arith,
-    (append-places (c .before .before .before .before .before .pre .0)
-        (c .before .before .before .before .before .pre .1)
-        (c .before .before .before .before .before .pre .2) (c .before .before .field-end .ensures)
-        refl),
+    (append-places (c .before .before .before .before .before .before .before .before .before .pre .0)
+        (c .before .before .before .before .before .before .before .before .before .pre .1)
+        (c .before .before .before .before .before .before .before .before .before .pre .2)
+        (c .before .before .before .before .before .field-end .ensures) refl),
   ),
 )
 
@@ -89,32 +91,35 @@ put-head-requires c κs = (
   omega (
     arith,
     (append-places
-        (c .before .before .before .before .before .before .before .before .before .pre .0)
-        (c .before .before .before .before .before .before .before .before .before .pre .1)
-        (c .before .before .before .before .before .before .before .before .before .pre .2)
-        (c .before .before .before .before .before .before .field-end .ensures) refl),
+        (c .before .before .before .before .before .before .before .before .before .before .before .before .before .pre .0)
+        (c .before .before .before .before .before .before .before .before .before .before .before .before .before .pre .1)
+        (c .before .before .before .before .before .before .before .before .before .before .before .before .before .pre .2)
+        (c .before .before .before .before .before .before .before .before .before .field-end .ensures)
+        refl),
   ),
   omega (
     arith,
-    (append-places (c .before .before .before .before .before .before .before .before .before .pre .0)
-        (c .before .before .before .before .before .before .before .before .before .pre .1)
-        (c .before .before .before .before .before .before .before .before .before .pre .2)
-        (c .before .before .before .before .before .before .field-end .ensures) refl),
+    (append-places
+        (c .before .before .before .before .before .before .before .before .before .before .before .before .before .pre .0)
+        (c .before .before .before .before .before .before .before .before .before .before .before .before .before .pre .1)
+        (c .before .before .before .before .before .before .before .before .before .before .before .before .before .pre .2)
+        (c .before .before .before .before .before .before .before .before .before .field-end .ensures)
+        refl),
     c .before .before .before .move-down .kept .0,
   ),
   omega (
     arith,
-    c .before .before .before .before .before .before .before .before .before .pre .0 .small,
+    c .before .before .before .before .before .before .before .before .before .before .before .before .before .pre .0 .small,
     c .before .before .before .move-down .kept .0,
   ),
 )
 
 within-depth-requires : tie.Need-within-depth-requires
 within-depth-requires c κs =
-    append-one (c .before .before .before .before .before .before .before .before .before .before .before .before .before .pre .0)
-    (c .before .before .before .before .before .before .before .before .before .before .before .before .before .pre .1)
-    (c .before .before .before .before .before .before .before .before .before .before .before .before .before .pre .2)
-    (c .before .before .before .before .before .before .before .before .before .before .field-end .ensures)
+    append-one (c .before .before .before .before .before .before .before .before .before .before .before .before .before .before .before .before .before .pre .0)
+    (c .before .before .before .before .before .before .before .before .before .before .before .before .before .before .before .before .before .pre .1)
+    (c .before .before .before .before .before .before .before .before .before .before .before .before .before .before .before .before .before .pre .2)
+    (c .before .before .before .before .before .before .before .before .before .before .before .before .before .field-end .ensures)
     refl (c .before .before .before .before .before .before .before .move-down .kept .0)
     (c .before .before .before .before .before .before .before .move-down .ensures)
     (c .before .before .before .put-head .ensures)
@@ -124,10 +129,10 @@ same-length-2 c = search needs
 
 returns-2 : tie.Need-returns-2
 returns-2 c =
-    append-deep (c .before .before .before .before .before .before .before .before .before .before .before .before .before .before .before .pre .0)
-    (c .before .before .before .before .before .before .before .before .before .before .before .before .before .before .before .pre .1)
-    (c .before .before .before .before .before .before .before .before .before .before .before .before .before .before .before .pre .2)
-    (c .before .before .before .before .before .before .before .before .before .before .before .before .field-end .ensures)
+    append-deep (c .before .before .before .before .before .before .before .before .before .before .before .before .before .before .before .before .before .before .before .pre .0)
+    (c .before .before .before .before .before .before .before .before .before .before .before .before .before .before .before .before .before .before .before .pre .1)
+    (c .before .before .before .before .before .before .before .before .before .before .before .before .before .before .before .before .before .before .before .pre .2)
+    (c .before .before .before .before .before .before .before .before .before .before .before .before .before .before .before .field-end .ensures)
     refl (c .before .before .before .before .before .before .before .before .before .move-down .kept .0)
     (c .before .before .before .before .before .before .before .before .before .move-down .ensures)
     (c .before .before .before .before .before .put-head .ensures)
@@ -139,10 +144,10 @@ same-length-3 c = search needs
 
 returns-3 : tie.Need-returns-3
 returns-3 c =
-    append-done (c .before .before .before .before .before .before .before .before .before .before .before .before .before .before .before .pre .0)
-    (c .before .before .before .before .before .before .before .before .before .before .before .before .before .before .before .pre .1)
-    (c .before .before .before .before .before .before .before .before .before .before .before .before .before .before .before .pre .2)
-    (c .before .before .before .before .before .before .before .before .before .before .before .before .field-end .ensures)
+    append-done (c .before .before .before .before .before .before .before .before .before .before .before .before .before .before .before .before .before .before .before .pre .0)
+    (c .before .before .before .before .before .before .before .before .before .before .before .before .before .before .before .before .before .before .before .pre .1)
+    (c .before .before .before .before .before .before .before .before .before .before .before .before .before .before .before .before .before .before .before .pre .2)
+    (c .before .before .before .before .before .before .before .before .before .before .before .before .before .before .before .field-end .ensures)
     refl (c .before .before .before .before .before .before .before .before .before .move-down .kept .0)
     (c .before .before .before .before .before .before .before .before .before .move-down .ensures)
     (c .before .before .before .before .before .put-head .ensures)

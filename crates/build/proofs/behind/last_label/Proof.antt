@@ -2,6 +2,7 @@
 use native.Mathlib.Omega.{arith}
 use mathlib.Core.Path.{refl}
 use Prim.Native.Nat.{ℕ, _-_}
+use Rattle.areas.specs.Area.{span}
 use Rattle.format.specs.Stand.{labelsBytes, Holds}
 use Rattle.format.specs.StandLaws.{labels-places, holds-others}
 use Rattle.build.specs.Behind.{LastIs}
@@ -14,17 +15,18 @@ use Rattle.areas.proofs.area.field_end.Reads as field-end-reads
 use Rattle.format.proofs.labels.label_at.Reads as label-at-reads
 
 abbrev Inv-loop : tie.InvT-loop
-Inv-loop s p e i₀ last₀ i last =
-    Holds labelsBytes s i e × ((r : ℕ) → LastFrom s i e last r → LastIs s p e r)
+Inv-loop area end at₀ last₀ at last =
+    Holds labelsBytes area at end ×
+    ((r : ℕ) → LastFrom area at end last r → LastIs area (span at₀ end) r)
 
 abbrev μ-loop : tie.MeasureT-loop
-μ-loop s p e i₀ last₀ i last = e - i
+μ-loop area end at₀ last₀ at last = end - at
 
 loop-holds : tie.Need-loop-holds Inv-loop μ-loop
 loop-holds c = (
   c .before .pre,
-  λ r h. last-all (c .before .args .s .now) (c .before .args .p)
-      (c .before .args .e) r h,
+  λ r h. last-all (c .before .args .area .now) (c .before .args .labels .from)
+      (c .before .args .labels .to) r h,
 )
 
 label-at-requires : tie.Need-label-at-requires Inv-loop μ-loop
@@ -52,8 +54,9 @@ loop-again c = (
   holds-others (c .before .before .before .loop .inv .0) (c .before .before .loop-test .taken)
       (c .field-end .ensures),
   λ r h. c .before .before .before .loop .inv .1 r
-      (last-next (c .before .before .before .before .before .args .s .now)
-      (c .before .before .before .loop .i) (c .before .before .before .before .before .args .e)
+      (last-next (c .before .before .before .before .before .args .area .now)
+      (c .before .before .before .loop .at)
+      (c .before .before .before .before .before .args .labels .to)
       (c .before .before .before .loop .last) (c .before .before .loop-test .taken)
       (c .field-end .ensures) (c .before .label-at .ensures) r h),
 )
@@ -61,8 +64,8 @@ loop-again c = (
 returns : tie.Need-returns Inv-loop μ-loop
 returns c =
     c .before .loop .inv .1 _
-    (last-end (c .before .before .before .args .s .now) (c .before .loop .i)
-    (c .before .before .before .args .e) (c .before .loop .last) (c .loop-test .left))
+    (last-end (c .before .before .before .args .area .now) (c .before .loop .at)
+    (c .before .before .before .args .labels .to) (c .before .loop .last) (c .loop-test .left))
 
 pub last-label-spec : {M : Type 1} → statement M
 last-label-spec =

@@ -42,17 +42,14 @@ goes-behind-requires c κs = (
 append-part-requires : tie.Need-append-part-requires
 append-part-requires c κs = (
   c .before .before .before .before .before .before .before .before .pre,
-  (subst (DepthSaid (c .before .before .before .before .before .before .before .before .args .w .now)
-      (c .before .before .before .before .before .before .before .before .args .i)
-      (c .before .before .before .before .before .before .before .before .args .ie))
+  (subst (DepthSaid (c .before .before .before .before .before .before .before .before .args .work .now)
+      (c .before .before .before .before .before .before .before .before .args .part))
       (not-false _ (c .before .before .before .before .if1 .left))
       (c .before .before .before .before .before .within-depth .ensures)),
   subst
-      (GoesBehind (c .before .before .before .before .before .before .before .before .args .w .now)
-      (c .before .before .before .before .before .before .before .before .args .s)
-      (c .before .before .before .before .before .before .before .before .args .se)
-      (c .before .before .before .before .before .before .before .before .args .i)
-      (c .before .before .before .before .before .before .before .before .args .ie))
+      (GoesBehind (c .before .before .before .before .before .before .before .before .args .work .now)
+      (c .before .before .before .before .before .before .before .before .args .built)
+      (c .before .before .before .before .before .before .before .before .args .part))
       (c .before .if2 .taken) (c .before .before .goes-behind .ensures),
 )
 
@@ -65,9 +62,8 @@ returns-2 c = search needs
 merge-part-requires : tie.Need-merge-part-requires
 merge-part-requires c κs = (
   c .before .before .before .before .before .before .before .before .pre,
-  (subst (DepthSaid (c .before .before .before .before .before .before .before .before .args .w .now)
-      (c .before .before .before .before .before .before .before .before .args .i)
-      (c .before .before .before .before .before .before .before .before .args .ie))
+  (subst (DepthSaid (c .before .before .before .before .before .before .before .before .args .work .now)
+      (c .before .before .before .before .before .before .before .before .args .part))
       (not-false _ (c .before .before .before .before .if1 .left))
       (c .before .before .before .before .before .within-depth .ensures)),
 )

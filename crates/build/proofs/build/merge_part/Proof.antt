@@ -19,8 +19,8 @@ use Rattle.areas.proofs.area.move_down.Reads as move-down-reads
 use Rattle.format.proofs.depth.within_depth.Reads as within-depth-reads
 use Rattle.merge.proofs.merge.merge_tree.Reads as merge-tree-reads
 
-add-merge-tree : tie.Need-add-merge-tree
-add-merge-tree c = omega arith
+add-stop : tie.Need-add-stop
+add-stop c = omega arith
 
 merge-tree-requires : tie.Need-merge-tree-requires
 merge-tree-requires c κs = addable-ready (c .before .before .pre .0)
@@ -72,16 +72,16 @@ move-down-requires c κs =
       ),
     )
 
-sub-t10 : tie.Need-sub-t10
-sub-t10 c =
+sub-t20 : tie.Need-sub-t20
+sub-t20 c =
     let n = merge-ends (c .before .before .before .before .before .before .before .before .before .before .before .before .before .before .before .pre .0)
     (c .before .before .before .before .before .before .before .before .before .before .before .before .before .before .before .pre .1)
     refl (c .before .before .before .before .before .before .before .before .before .before .before .before .merge-tree .ensures)
     (c .before .before .before .before .before .before .before .before .both .given .1) in
     omega arith
 
-add-t18 : tie.Need-add-t18
-add-t18 c = search needs
+add-t21 : tie.Need-add-t21
+add-t21 c = search needs
 
 same-length-3 : tie.Need-same-length-3
 same-length-3 c = search needs
@@ -100,7 +100,7 @@ pub merge-part-spec : {M : Type 1} → statement M
 merge-part-spec =
     tie.close
     (tie.spec
-    add-merge-tree
+    add-stop
     merge-tree-requires
     enum-known-both
     enum-told
@@ -110,7 +110,7 @@ merge-part-spec =
     same-length-2
     returns-2
     move-down-requires
-    sub-t10
-    add-t18
+    sub-t20
+    add-t21
     same-length-3
     returns-3)

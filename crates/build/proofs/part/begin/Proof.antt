@@ -7,8 +7,8 @@ use Rattle.build.proofs.part.begin.Reads as reads
 use Rattle.build.proofs.part.begin.Lts as lts
 use Rattle.place.proofs.place.put_void.Reads as put-void-reads
 
-add-put-void : tie.Need-add-put-void
-add-put-void c = search needs
+add-stop : tie.Need-add-stop
+add-stop c = search needs
 
 put-void-requires : tie.Need-put-void-requires
 put-void-requires c κs = search needs
@@ -23,4 +23,4 @@ returns : tie.Need-returns
 returns c = begun (c .before .before .put-void .ensures)
 
 pub begin-spec : {M : Type 1} → statement M
-begin-spec = tie.close (tie.spec add-put-void put-void-requires add-result same-length returns)
+begin-spec = tie.close (tie.spec add-stop put-void-requires add-result same-length returns)

@@ -15,14 +15,15 @@ enum-told c = search needs
 put-void-requires : tie.Need-put-void-requires
 put-void-requires c κs = search needs
 
-enum-known-r : tie.Need-enum-known-r
-enum-known-r c = search needs
+enum-known-written : tie.Need-enum-known-written
+enum-known-written c = search needs
 
 place-heads-requires : tie.Need-place-heads-requires
 place-heads-requires c κs = (
   c .before .before .before .before .before .before .pre .along,
   placing-behind
-      (c .before .before .before .before .before .before .pre) (c .before .before .r .given .1),
+      (c .before .before .before .before .before .before .pre)
+      (c .before .before .written .given .1),
   omega (
     arith,
     c .before .before .before .before .before .before .pre .room,
@@ -48,7 +49,7 @@ same-length-2 c = search needs
 returns-2 : tie.Need-returns-2
 returns-2 c =
     places-at (c .before .before .before .before .before .before .before .before .before .pre)
-    (c .before .before .before .before .before .r .given .1)
+    (c .before .before .before .before .before .written .given .1)
     (c .before .before .place-heads .ensures)
 
 returns-3 : tie.Need-returns-3
@@ -60,7 +61,7 @@ place-value-spec =
     (tie.spec
     enum-told
     put-void-requires
-    enum-known-r
+    enum-known-written
     place-heads-requires
     enum-told-2
     same-length

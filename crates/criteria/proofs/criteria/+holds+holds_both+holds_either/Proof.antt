@@ -43,13 +43,13 @@ use Rattle.criteria.proofs.criteria.+holds+holds_both+holds_either.{sta
 use Rattle.criteria.proofs.criteria.+holds+holds_both+holds_either.Tie.{close}
 
 abbrev μ-holds : Measures 1 holds-kinds.ps ℕ
-μ-holds κs a = 2 * a .1 .1 .1 .1 .1 .1 .0
+μ-holds κs a = 2 * a .1 .1 .1 .1 .0
 
 abbrev μ-holds-both : Measures 1 holds-both-kinds.ps ℕ
-μ-holds-both κs a = 2 * a .1 .1 .1 .1 .1 .1 .1 .1 .0 + 1
+μ-holds-both κs a = 2 * a .1 .1 .1 .1 .1 .0 + 1
 
 abbrev μ-holds-either : Measures 1 holds-either-kinds.ps ℕ
-μ-holds-either κs a = 2 * a .1 .1 .1 .1 .1 .1 .1 .1 .0 + 1
+μ-holds-either κs a = 2 * a .1 .1 .1 .1 .1 .0 + 1
 
 abbrev holds-at : ℕ → In 1 holds-kinds.ps
 holds-at t = and 1 holds-kinds.ps (is 1 holds-kinds.ps μ-holds t) holds.Pre
@@ -130,16 +130,14 @@ holds-returns : (t : ℕ) → holds-lts.Need-returns (
   holds-either.Post,
 ) (holds-at t) holds.Post
 holds-returns t c =
-    always-meets (c .before .before .before .before .before .args .q .now)
-    (c .before .before .before .before .before .args .c)
-    (c .before .before .before .before .before .args .ce)
-    (c .before .before .before .before .before .args .s .now)
-    (c .before .before .before .before .before .args .a)
-    (c .before .before .before .before .before .args .b)
+    always-meets (c .before .before .before .before .before .args .query .now)
+    (c .before .before .before .before .before .args .criterion)
+    (c .before .before .before .before .before .args .area .now)
+    (c .before .before .before .before .before .args .tree)
     (c .before .before .before .before .before .args .left)
     (c .before .before .criterion-at .ensures) (c .enum-told .given .1)
 
-holds-enum-known-criterion : (t : ℕ) → holds-lts.Need-enum-known-criterion (
+holds-enum-known-read : (t : ℕ) → holds-lts.Need-enum-known-read (
   criterion-at-reads.Asked,
   criterion-at-reads.Learnt,
   present-reads.Asked,
@@ -155,7 +153,7 @@ holds-enum-known-criterion : (t : ℕ) → holds-lts.Need-enum-known-criterion (
   holds-either-below t,
   holds-either.Post,
 ) (holds-at t) holds.Post
-holds-enum-known-criterion t c = search needs
+holds-enum-known-read t c = search needs
 
 holds-present-requires : (t : ℕ) → holds-lts.Need-present-requires (
   criterion-at-reads.Asked,
@@ -174,15 +172,13 @@ holds-present-requires : (t : ℕ) → holds-lts.Need-present-requires (
   holds-either.Post,
 ) (holds-at t) holds.Post
 holds-present-requires t c κs =
-    exists-walk (c .before .before .before .before .before .before .args .q .now)
-    (c .before .before .before .before .before .before .args .c)
-    (c .before .before .before .before .before .before .args .ce)
-    (c .before .before .before .before .before .before .args .s .now)
-    (c .before .before .before .before .before .before .args .a)
-    (c .before .before .before .before .before .before .args .b)
+    exists-walk (c .before .before .before .before .before .before .args .query .now)
+    (c .before .before .before .before .before .before .args .criterion)
+    (c .before .before .before .before .before .before .args .area .now)
+    (c .before .before .before .before .before .before .args .tree)
     (c .before .before .before .before .before .before .args .left)
     (c .before .before .before .criterion-at .ensures)
-    (c .before .before .before .before .before .before .pre .1) (c .before .criterion .given .1)
+    (c .before .before .before .before .before .before .pre .1) (c .before .read .given .1)
 
 holds-returns-2 : (t : ℕ) → holds-lts.Need-returns-2 (
   criterion-at-reads.Asked,
@@ -201,17 +197,15 @@ holds-returns-2 : (t : ℕ) → holds-lts.Need-returns-2 (
   holds-either.Post,
 ) (holds-at t) holds.Post
 holds-returns-2 t c =
-    exists-meets (c .before .before .before .before .before .before .before .args .q .now)
-    (c .before .before .before .before .before .before .before .args .c)
-    (c .before .before .before .before .before .before .before .args .ce)
-    (c .before .before .before .before .before .before .before .args .s .now)
-    (c .before .before .before .before .before .before .before .args .a)
-    (c .before .before .before .before .before .before .before .args .b)
+    exists-meets (c .before .before .before .before .before .before .before .args .query .now)
+    (c .before .before .before .before .before .before .before .args .criterion)
+    (c .before .before .before .before .before .before .before .args .area .now)
+    (c .before .before .before .before .before .before .before .args .tree)
     (c .before .before .before .before .before .before .before .args .left)
-    (c .before .before .before .before .criterion-at .ensures)
-    (c .before .before .criterion .given .1) (c .present .ensures)
+    (c .before .before .before .before .criterion-at .ensures) (c .before .before .read .given .1)
+    (c .present .ensures)
 
-holds-enum-known-criterion-2 : (t : ℕ) → holds-lts.Need-enum-known-criterion-2 (
+holds-enum-known-read-2 : (t : ℕ) → holds-lts.Need-enum-known-read-2 (
   criterion-at-reads.Asked,
   criterion-at-reads.Learnt,
   present-reads.Asked,
@@ -227,7 +221,7 @@ holds-enum-known-criterion-2 : (t : ℕ) → holds-lts.Need-enum-known-criterion
   holds-either-below t,
   holds-either.Post,
 ) (holds-at t) holds.Post
-holds-enum-known-criterion-2 t c = search needs
+holds-enum-known-read-2 t c = search needs
 
 holds-path-equals-literal-requires : (t : ℕ) → holds-lts.Need-path-equals-literal-requires (
   criterion-at-reads.Asked,
@@ -246,15 +240,13 @@ holds-path-equals-literal-requires : (t : ℕ) → holds-lts.Need-path-equals-li
   holds-either.Post,
 ) (holds-at t) holds.Post
 holds-path-equals-literal-requires t c κs =
-    equal-walk (c .before .before .before .before .before .before .args .q .now)
-    (c .before .before .before .before .before .before .args .c)
-    (c .before .before .before .before .before .before .args .ce)
-    (c .before .before .before .before .before .before .args .s .now)
-    (c .before .before .before .before .before .before .args .a)
-    (c .before .before .before .before .before .before .args .b)
+    equal-walk (c .before .before .before .before .before .before .args .query .now)
+    (c .before .before .before .before .before .before .args .criterion)
+    (c .before .before .before .before .before .before .args .area .now)
+    (c .before .before .before .before .before .before .args .tree)
     (c .before .before .before .before .before .before .args .left)
     (c .before .before .before .criterion-at .ensures)
-    (c .before .before .before .before .before .before .pre .1) (c .before .criterion2 .given .1)
+    (c .before .before .before .before .before .before .pre .1) (c .before .read2 .given .1)
 
 holds-returns-3 : (t : ℕ) → holds-lts.Need-returns-3 (
   criterion-at-reads.Asked,
@@ -273,17 +265,15 @@ holds-returns-3 : (t : ℕ) → holds-lts.Need-returns-3 (
   holds-either.Post,
 ) (holds-at t) holds.Post
 holds-returns-3 t c =
-    equal-meets (c .before .before .before .before .before .before .before .args .q .now)
-    (c .before .before .before .before .before .before .before .args .c)
-    (c .before .before .before .before .before .before .before .args .ce)
-    (c .before .before .before .before .before .before .before .args .s .now)
-    (c .before .before .before .before .before .before .before .args .a)
-    (c .before .before .before .before .before .before .before .args .b)
+    equal-meets (c .before .before .before .before .before .before .before .args .query .now)
+    (c .before .before .before .before .before .before .before .args .criterion)
+    (c .before .before .before .before .before .before .before .args .area .now)
+    (c .before .before .before .before .before .before .before .args .tree)
     (c .before .before .before .before .before .before .before .args .left)
-    (c .before .before .before .before .criterion-at .ensures)
-    (c .before .before .criterion2 .given .1) (c .path-equals-literal .ensures)
+    (c .before .before .before .before .criterion-at .ensures) (c .before .before .read2 .given .1)
+    (c .path-equals-literal .ensures)
 
-holds-enum-known-criterion-3 : (t : ℕ) → holds-lts.Need-enum-known-criterion-3 (
+holds-enum-known-read-3 : (t : ℕ) → holds-lts.Need-enum-known-read-3 (
   criterion-at-reads.Asked,
   criterion-at-reads.Learnt,
   present-reads.Asked,
@@ -299,7 +289,7 @@ holds-enum-known-criterion-3 : (t : ℕ) → holds-lts.Need-enum-known-criterion
   holds-either-below t,
   holds-either.Post,
 ) (holds-at t) holds.Post
-holds-enum-known-criterion-3 t c = search needs
+holds-enum-known-read-3 t c = search needs
 
 holds-same-paths-requires : (t : ℕ) → holds-lts.Need-same-paths-requires (
   criterion-at-reads.Asked,
@@ -318,15 +308,13 @@ holds-same-paths-requires : (t : ℕ) → holds-lts.Need-same-paths-requires (
   holds-either.Post,
 ) (holds-at t) holds.Post
 holds-same-paths-requires t c κs =
-    same-walk (c .before .before .before .before .before .before .args .q .now)
-    (c .before .before .before .before .before .before .args .c)
-    (c .before .before .before .before .before .before .args .ce)
-    (c .before .before .before .before .before .before .args .s .now)
-    (c .before .before .before .before .before .before .args .a)
-    (c .before .before .before .before .before .before .args .b)
+    same-walk (c .before .before .before .before .before .before .args .query .now)
+    (c .before .before .before .before .before .before .args .criterion)
+    (c .before .before .before .before .before .before .args .area .now)
+    (c .before .before .before .before .before .before .args .tree)
     (c .before .before .before .before .before .before .args .left)
     (c .before .before .before .criterion-at .ensures)
-    (c .before .before .before .before .before .before .pre .1) (c .before .criterion3 .given .1)
+    (c .before .before .before .before .before .before .pre .1) (c .before .read3 .given .1)
 
 holds-returns-4 : (t : ℕ) → holds-lts.Need-returns-4 (
   criterion-at-reads.Asked,
@@ -345,17 +333,15 @@ holds-returns-4 : (t : ℕ) → holds-lts.Need-returns-4 (
   holds-either.Post,
 ) (holds-at t) holds.Post
 holds-returns-4 t c =
-    same-meets (c .before .before .before .before .before .before .before .args .q .now)
-    (c .before .before .before .before .before .before .before .args .c)
-    (c .before .before .before .before .before .before .before .args .ce)
-    (c .before .before .before .before .before .before .before .args .s .now)
-    (c .before .before .before .before .before .before .before .args .a)
-    (c .before .before .before .before .before .before .before .args .b)
+    same-meets (c .before .before .before .before .before .before .before .args .query .now)
+    (c .before .before .before .before .before .before .before .args .criterion)
+    (c .before .before .before .before .before .before .before .args .area .now)
+    (c .before .before .before .before .before .before .before .args .tree)
     (c .before .before .before .before .before .before .before .args .left)
-    (c .before .before .before .before .criterion-at .ensures)
-    (c .before .before .criterion3 .given .1) (c .same-paths .ensures)
+    (c .before .before .before .before .criterion-at .ensures) (c .before .before .read3 .given .1)
+    (c .same-paths .ensures)
 
-holds-enum-known-criterion-4 : (t : ℕ) → holds-lts.Need-enum-known-criterion-4 (
+holds-enum-known-read-4 : (t : ℕ) → holds-lts.Need-enum-known-read-4 (
   criterion-at-reads.Asked,
   criterion-at-reads.Learnt,
   present-reads.Asked,
@@ -371,7 +357,7 @@ holds-enum-known-criterion-4 : (t : ℕ) → holds-lts.Need-enum-known-criterion
   holds-either-below t,
   holds-either.Post,
 ) (holds-at t) holds.Post
-holds-enum-known-criterion-4 t c = search needs
+holds-enum-known-read-4 t c = search needs
 
 holds-sub-holds : (t : ℕ) → holds-lts.Need-sub-holds (
   criterion-at-reads.Asked,
@@ -414,15 +400,13 @@ holds-holds-requires t c κs = (
     c .before .before .before .before .before .before .pre .0,
     (left-positive (c .before .before .before .before .before .before .pre .1)),
   )),
-  negated-evaluable (c .before .before .before .before .before .before .args .q .now)
-      (c .before .before .before .before .before .before .args .c)
-      (c .before .before .before .before .before .before .args .ce)
-      (c .before .before .before .before .before .before .args .s .now)
-      (c .before .before .before .before .before .before .args .a)
-      (c .before .before .before .before .before .before .args .b)
+  negated-evaluable (c .before .before .before .before .before .before .args .query .now)
+      (c .before .before .before .before .before .before .args .criterion)
+      (c .before .before .before .before .before .before .args .area .now)
+      (c .before .before .before .before .before .before .args .tree)
       (c .before .before .before .before .before .before .args .left)
       (c .before .before .before .criterion-at .ensures)
-      (c .before .before .before .before .before .before .pre .1) (c .before .criterion4 .given .1),
+      (c .before .before .before .before .before .before .pre .1) (c .before .read4 .given .1),
 )
 
 holds-returns-5 : (t : ℕ) → holds-lts.Need-returns-5 (
@@ -442,17 +426,15 @@ holds-returns-5 : (t : ℕ) → holds-lts.Need-returns-5 (
   holds-either.Post,
 ) (holds-at t) holds.Post
 holds-returns-5 t c =
-    negated-meets (c .before .before .before .before .before .before .before .args .q .now)
-    (c .before .before .before .before .before .before .before .args .c)
-    (c .before .before .before .before .before .before .before .args .ce)
-    (c .before .before .before .before .before .before .before .args .s .now)
-    (c .before .before .before .before .before .before .before .args .a)
-    (c .before .before .before .before .before .before .before .args .b)
+    negated-meets (c .before .before .before .before .before .before .before .args .query .now)
+    (c .before .before .before .before .before .before .before .args .criterion)
+    (c .before .before .before .before .before .before .before .args .area .now)
+    (c .before .before .before .before .before .before .before .args .tree)
     (c .before .before .before .before .before .before .before .args .left)
-    (c .before .before .before .before .criterion-at .ensures)
-    (c .before .before .criterion4 .given .1) (c .holds .ensures)
+    (c .before .before .before .before .criterion-at .ensures) (c .before .before .read4 .given .1)
+    (c .holds .ensures)
 
-holds-enum-known-criterion-5 : (t : ℕ) → holds-lts.Need-enum-known-criterion-5 (
+holds-enum-known-read-5 : (t : ℕ) → holds-lts.Need-enum-known-read-5 (
   criterion-at-reads.Asked,
   criterion-at-reads.Learnt,
   present-reads.Asked,
@@ -468,7 +450,7 @@ holds-enum-known-criterion-5 : (t : ℕ) → holds-lts.Need-enum-known-criterion
   holds-either-below t,
   holds-either.Post,
 ) (holds-at t) holds.Post
-holds-enum-known-criterion-5 t c = search needs
+holds-enum-known-read-5 t c = search needs
 
 holds-sub-holds-both : (t : ℕ) → holds-lts.Need-sub-holds-both (
   criterion-at-reads.Asked,
@@ -512,15 +494,13 @@ holds-holds-both-requires t c κs = (
     (left-positive (c .before .before .before .before .before .before .pre .1)),
   )),
   both-evaluable
-      (c .before .before .before .before .before .before .args .q .now)
-      (c .before .before .before .before .before .before .args .c)
-      (c .before .before .before .before .before .before .args .ce)
-      (c .before .before .before .before .before .before .args .s .now)
-      (c .before .before .before .before .before .before .args .a)
-      (c .before .before .before .before .before .before .args .b)
+      (c .before .before .before .before .before .before .args .query .now)
+      (c .before .before .before .before .before .before .args .criterion)
+      (c .before .before .before .before .before .before .args .area .now)
+      (c .before .before .before .before .before .before .args .tree)
       (c .before .before .before .before .before .before .args .left)
       (c .before .before .before .criterion-at .ensures)
-      (c .before .before .before .before .before .before .pre .1) (c .before .criterion5 .given .1),
+      (c .before .before .before .before .before .before .pre .1) (c .before .read5 .given .1),
 )
 
 holds-returns-6 : (t : ℕ) → holds-lts.Need-returns-6 (
@@ -540,17 +520,15 @@ holds-returns-6 : (t : ℕ) → holds-lts.Need-returns-6 (
   holds-either.Post,
 ) (holds-at t) holds.Post
 holds-returns-6 t c =
-    both-meets (c .before .before .before .before .before .before .before .args .q .now)
-    (c .before .before .before .before .before .before .before .args .c)
-    (c .before .before .before .before .before .before .before .args .ce)
-    (c .before .before .before .before .before .before .before .args .s .now)
-    (c .before .before .before .before .before .before .before .args .a)
-    (c .before .before .before .before .before .before .before .args .b)
+    both-meets (c .before .before .before .before .before .before .before .args .query .now)
+    (c .before .before .before .before .before .before .before .args .criterion)
+    (c .before .before .before .before .before .before .before .args .area .now)
+    (c .before .before .before .before .before .before .before .args .tree)
     (c .before .before .before .before .before .before .before .args .left)
-    (c .before .before .before .before .criterion-at .ensures)
-    (c .before .before .criterion5 .given .1) (c .holds-both .ensures)
+    (c .before .before .before .before .criterion-at .ensures) (c .before .before .read5 .given .1)
+    (c .holds-both .ensures)
 
-holds-enum-known-criterion-6 : (t : ℕ) → holds-lts.Need-enum-known-criterion-6 (
+holds-enum-known-read-6 : (t : ℕ) → holds-lts.Need-enum-known-read-6 (
   criterion-at-reads.Asked,
   criterion-at-reads.Learnt,
   present-reads.Asked,
@@ -566,7 +544,7 @@ holds-enum-known-criterion-6 : (t : ℕ) → holds-lts.Need-enum-known-criterion
   holds-either-below t,
   holds-either.Post,
 ) (holds-at t) holds.Post
-holds-enum-known-criterion-6 t c = search needs
+holds-enum-known-read-6 t c = search needs
 
 holds-sub-holds-either : (t : ℕ) → holds-lts.Need-sub-holds-either (
   criterion-at-reads.Asked,
@@ -610,15 +588,13 @@ holds-holds-either-requires t c κs = (
     (left-positive (c .before .before .before .before .before .before .pre .1)),
   )),
   either-evaluable
-      (c .before .before .before .before .before .before .args .q .now)
-      (c .before .before .before .before .before .before .args .c)
-      (c .before .before .before .before .before .before .args .ce)
-      (c .before .before .before .before .before .before .args .s .now)
-      (c .before .before .before .before .before .before .args .a)
-      (c .before .before .before .before .before .before .args .b)
+      (c .before .before .before .before .before .before .args .query .now)
+      (c .before .before .before .before .before .before .args .criterion)
+      (c .before .before .before .before .before .before .args .area .now)
+      (c .before .before .before .before .before .before .args .tree)
       (c .before .before .before .before .before .before .args .left)
       (c .before .before .before .criterion-at .ensures)
-      (c .before .before .before .before .before .before .pre .1) (c .before .criterion6 .given .1),
+      (c .before .before .before .before .before .before .pre .1) (c .before .read6 .given .1),
 )
 
 holds-returns-7 : (t : ℕ) → holds-lts.Need-returns-7 (
@@ -638,15 +614,13 @@ holds-returns-7 : (t : ℕ) → holds-lts.Need-returns-7 (
   holds-either.Post,
 ) (holds-at t) holds.Post
 holds-returns-7 t c =
-    either-meets (c .before .before .before .before .before .before .before .args .q .now)
-    (c .before .before .before .before .before .before .before .args .c)
-    (c .before .before .before .before .before .before .before .args .ce)
-    (c .before .before .before .before .before .before .before .args .s .now)
-    (c .before .before .before .before .before .before .before .args .a)
-    (c .before .before .before .before .before .before .before .args .b)
+    either-meets (c .before .before .before .before .before .before .before .args .query .now)
+    (c .before .before .before .before .before .before .before .args .criterion)
+    (c .before .before .before .before .before .before .before .args .area .now)
+    (c .before .before .before .before .before .before .before .args .tree)
     (c .before .before .before .before .before .before .before .args .left)
-    (c .before .before .before .before .criterion-at .ensures)
-    (c .before .before .criterion6 .given .1) (c .holds-either .ensures)
+    (c .before .before .before .before .criterion-at .ensures) (c .before .before .read6 .given .1)
+    (c .holds-either .ensures)
 
 holds-both-holds-requires : (t : ℕ) → holds-both-lts.Need-holds-requires (
   holds-below t,
@@ -668,14 +642,11 @@ holds-both-returns :
     (t : ℕ) →
     holds-both-lts.Need-returns (holds-below t, holds.Post) (holds-both-at t) holds-both.Post
 holds-both-returns t c =
-    both-second (c .before .before .before .before .before .args .q .now)
-    (c .before .before .before .before .before .args .f)
-    (c .before .before .before .before .before .args .t)
-    (c .before .before .before .before .before .args .g)
-    (c .before .before .before .before .before .args .u)
-    (c .before .before .before .before .before .args .s .now)
-    (c .before .before .before .before .before .args .a)
-    (c .before .before .before .before .before .args .b)
+    both-second (c .before .before .before .before .before .args .query .now)
+    (c .before .before .before .before .before .args .one)
+    (c .before .before .before .before .before .args .two)
+    (c .before .before .before .before .before .args .area .now)
+    (c .before .before .before .before .before .args .tree)
     (c .before .before .before .before .before .args .left) (c .before .before .holds .ensures)
     (c .before .if1 .taken) (c .holds2 .ensures)
 
@@ -683,11 +654,10 @@ holds-both-returns-2 :
     (t : ℕ) →
     holds-both-lts.Need-returns-2 (holds-below t, holds.Post) (holds-both-at t) holds-both.Post
 holds-both-returns-2 t c =
-    both-first (c .before .before .before .before .args .q .now)
-    (c .before .before .before .before .args .f) (c .before .before .before .before .args .t)
-    (c .before .before .before .before .args .g) (c .before .before .before .before .args .u)
-    (c .before .before .before .before .args .s .now) (c .before .before .before .before .args .a)
-    (c .before .before .before .before .args .b) (c .before .before .before .before .args .left)
+    both-first (c .before .before .before .before .args .query .now)
+    (c .before .before .before .before .args .one) (c .before .before .before .before .args .two)
+    (c .before .before .before .before .args .area .now)
+    (c .before .before .before .before .args .tree) (c .before .before .before .before .args .left)
     (c .before .holds .ensures) (c .if1 .left)
 
 holds-either-holds-requires : (t : ℕ) → holds-either-lts.Need-holds-requires (
@@ -713,11 +683,10 @@ holds-either-returns :
     (holds-either-at t)
     holds-either.Post
 holds-either-returns t c =
-    either-first (c .before .before .before .before .args .q .now)
-    (c .before .before .before .before .args .f) (c .before .before .before .before .args .t)
-    (c .before .before .before .before .args .g) (c .before .before .before .before .args .u)
-    (c .before .before .before .before .args .s .now) (c .before .before .before .before .args .a)
-    (c .before .before .before .before .args .b) (c .before .before .before .before .args .left)
+    either-first (c .before .before .before .before .args .query .now)
+    (c .before .before .before .before .args .one) (c .before .before .before .before .args .two)
+    (c .before .before .before .before .args .area .now)
+    (c .before .before .before .before .args .tree) (c .before .before .before .before .args .left)
     (c .before .holds .ensures) (c .if1 .taken)
 
 holds-either-returns-2 :
@@ -727,14 +696,11 @@ holds-either-returns-2 :
     (holds-either-at t)
     holds-either.Post
 holds-either-returns-2 t c =
-    either-second (c .before .before .before .before .before .args .q .now)
-    (c .before .before .before .before .before .args .f)
-    (c .before .before .before .before .before .args .t)
-    (c .before .before .before .before .before .args .g)
-    (c .before .before .before .before .before .args .u)
-    (c .before .before .before .before .before .args .s .now)
-    (c .before .before .before .before .before .args .a)
-    (c .before .before .before .before .before .args .b)
+    either-second (c .before .before .before .before .before .args .query .now)
+    (c .before .before .before .before .before .args .one)
+    (c .before .before .before .before .before .args .two)
+    (c .before .before .before .before .before .args .area .now)
+    (c .before .before .before .before .before .args .tree)
     (c .before .before .before .before .before .args .left) (c .before .before .holds .ensures)
     (c .before .if1 .left) (c .holds2 .ensures)
 
@@ -761,24 +727,24 @@ pub +holds+holds-both+holds-either-spec : {M : Type 1} → statement M
     (holds-criterion-at-requires t)
     (holds-enum-told t)
     (holds-returns t)
-    (holds-enum-known-criterion t)
+    (holds-enum-known-read t)
     (holds-present-requires t)
     (holds-returns-2 t)
-    (holds-enum-known-criterion-2 t)
+    (holds-enum-known-read-2 t)
     (holds-path-equals-literal-requires t)
     (holds-returns-3 t)
-    (holds-enum-known-criterion-3 t)
+    (holds-enum-known-read-3 t)
     (holds-same-paths-requires t)
     (holds-returns-4 t)
-    (holds-enum-known-criterion-4 t)
+    (holds-enum-known-read-4 t)
     (holds-sub-holds t)
     (holds-holds-requires t)
     (holds-returns-5 t)
-    (holds-enum-known-criterion-5 t)
+    (holds-enum-known-read-5 t)
     (holds-sub-holds-both t)
     (holds-holds-both-requires t)
     (holds-returns-6 t)
-    (holds-enum-known-criterion-6 t)
+    (holds-enum-known-read-6 t)
     (holds-sub-holds-either t)
     (holds-holds-either-requires t)
     (holds-returns-7 t))

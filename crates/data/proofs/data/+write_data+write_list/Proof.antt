@@ -6,6 +6,7 @@ use mathlib.Core.List.{List}
 use mathlib.Core.Bool.{false}
 use Prim.Native.Nat.{ℕ, _+_, _*_, _-_}
 use lib.ListN.{length}
+use Rattle.areas.specs.Area.{span}
 use Rattle.queries.specs.Places.{datasBytes}
 use Rattle.queries.specs.PartLaws.{holds-of}
 use Rattle.data.specs.declared.value.Value.{Value}
@@ -58,10 +59,10 @@ use Rattle.data.proofs.data.+write_data+write_list.{statement}
 use Rattle.data.proofs.data.+write_data+write_list.Tie.{close}
 
 abbrev μ-write-data : Measures 2 write-data-kinds.ps ℕ
-μ-write-data κs a = 2 * a .1 .1 .1 .1 .1 .1 .1 .1 .0
+μ-write-data κs a = 2 * a .1 .1 .1 .1 .1 .0
 
 abbrev μ-write-list : Measures 2 write-list-kinds.ps ℕ
-μ-write-list κs a = 2 * a .1 .1 .1 .1 .1 .1 .1 .1 .0 + 1
+μ-write-list κs a = 2 * a .1 .1 .1 .1 .1 .0 + 1
 
 abbrev write-data-at : ℕ → In 2 write-data-kinds.ps
 write-data-at t =
@@ -887,13 +888,15 @@ write-data-returns-7 t c =
     (c .before .before .write-reduced .ensures)
 
 abbrev write-list-Inv-loop : write-list-lts.InvT-loop
-write-list-Inv-loop w₀ q c ce a b d stop left at₀ to₀ any₀ w at to any =
-    DataReady (NestedDs left) datasBytes q at ce w a b to stop × (length w ≡ length w₀)
-    × ((u : List ℕ) (r : Value) → Gives (NestedDs left) datasBytes (listedFrom any) q at ce w u a b
-    to stop r → Gives (NestedDs left) datasBytes (listedFrom false) q c ce w₀ u a b d stop r)
+write-list-Inv-loop work₀ query tree left end stop at₀ to₀ any₀ work at to any =
+    DataReady (NestedDs left) datasBytes query (span at end) work tree (span to stop) ×
+    (length work ≡ length work₀)
+    × ((u : List ℕ) (r : Value) → Gives (NestedDs left) datasBytes (listedFrom any) query
+    (span at end) work u tree (span to stop) r → Gives (NestedDs left) datasBytes
+    (listedFrom false) query (span at₀ end) work₀ u tree (span to₀ stop) r)
 
 abbrev write-list-μ-loop : write-list-lts.MeasureT-loop
-write-list-μ-loop w₀ q c ce a b d stop left at₀ to₀ any₀ w at to any = ce - at
+write-list-μ-loop work₀ query tree left end stop at₀ to₀ any₀ work at to any = end - at
 
 write-list-loop-holds : (t : ℕ) → write-list-lts.Need-loop-holds (
   field-end-reads.Asked,
@@ -928,10 +931,11 @@ write-list-field-end-requires : (t : ℕ) → write-list-lts.Need-field-end-requ
 write-list-field-end-requires t c κs =
     omega (
       arith,
-      list-places (c .before .before .before .before .args .q .now)
-          (c .before .loop .at) (c .before .before .before .before .args .ce) (c .before .loop .w)
-          (c .before .before .before .before .args .a) (c .before .before .before .before .args .b)
-          (c .before .loop .to) (c .before .before .before .before .args .stop)
+      list-places (c .before .before .before .before .args .query .now)
+          (c .before .loop .at) (c .before .before .before .before .args .members .to)
+          (c .before .loop .work) (c .before .before .before .before .args .tree .from)
+          (c .before .before .before .before .args .tree .to) (c .before .loop .to)
+          (c .before .before .before .before .args .room .to)
           (c .before .before .before .before .args .left) (c .loop-test .taken) refl
           (c .before .loop .inv .0),
     )
@@ -953,14 +957,14 @@ write-list-write-data-requires : (t : ℕ) → write-list-lts.Need-write-data-re
 write-list-write-data-requires t c κs = (
   omega (arith, c .before .before .before .before .before .before .pre .0),
   list-first
-      (c .before .before .before .before .before .before .args .q .now)
+      (c .before .before .before .before .before .before .args .query .now)
       (c .before .before .before .loop .at)
-      (c .before .before .before .before .before .before .args .ce)
-      (c .before .before .before .loop .w)
-      (c .before .before .before .before .before .before .args .a)
-      (c .before .before .before .before .before .before .args .b)
+      (c .before .before .before .before .before .before .args .members .to)
+      (c .before .before .before .loop .work)
+      (c .before .before .before .before .before .before .args .tree .from)
+      (c .before .before .before .before .before .before .args .tree .to)
       (c .before .before .before .loop .to)
-      (c .before .before .before .before .before .before .args .stop)
+      (c .before .before .before .before .before .before .args .room .to)
       (c .before .before .before .before .before .before .args .left)
       (c .before .before .loop-test .taken) (c .before .field-end .ensures)
       (c .before .before .before .loop .inv .0),
@@ -1015,14 +1019,14 @@ write-list-returns : (t : ℕ) → write-list-lts.Need-returns (
 write-list-returns t c =
     c .before .before .before .before .before .before .before .before .loop .inv .2
     (c .before .before .before .before .write-data .last .0) Value.TooLarge
-    (list-stop (c .before .before .before .before .before .before .before .before .before .before .before .args .q .now)
+    (list-stop (c .before .before .before .before .before .before .before .before .before .before .before .args .query .now)
     (c .before .before .before .before .before .before .before .before .loop .at)
-    (c .before .before .before .before .before .before .before .before .before .before .before .args .ce)
-    (c .before .before .before .before .before .before .before .before .loop .w)
-    (c .before .before .before .before .before .before .before .before .before .before .before .args .a)
-    (c .before .before .before .before .before .before .before .before .before .before .before .args .b)
+    (c .before .before .before .before .before .before .before .before .before .before .before .args .members .to)
+    (c .before .before .before .before .before .before .before .before .loop .work)
+    (c .before .before .before .before .before .before .before .before .before .before .before .args .tree .from)
+    (c .before .before .before .before .before .before .before .before .before .before .before .args .tree .to)
     (c .before .before .before .before .before .before .before .before .loop .to)
-    (c .before .before .before .before .before .before .before .before .before .before .before .args .stop)
+    (c .before .before .before .before .before .before .before .before .before .before .before .args .room .to)
     (c .before .before .before .before .before .before .before .before .before .before .before .args .left)
     (c .before .before .before .before .before .before .before .loop-test .taken)
     (c .before .before .before .before .before .before .field-end .ensures)
@@ -1080,14 +1084,14 @@ write-list-loop-less t c =
     omega (
       arith,
       (list-places
-          (c .before .before .before .before .before .before .before .before .before .before .before .before .before .args .q .now)
+          (c .before .before .before .before .before .before .before .before .before .before .before .before .before .args .query .now)
           (c .before .before .before .before .before .before .before .before .before .before .loop .at)
-          (c .before .before .before .before .before .before .before .before .before .before .before .before .before .args .ce)
-          (c .before .before .before .before .before .before .before .before .before .before .loop .w)
-          (c .before .before .before .before .before .before .before .before .before .before .before .before .before .args .a)
-          (c .before .before .before .before .before .before .before .before .before .before .before .before .before .args .b)
+          (c .before .before .before .before .before .before .before .before .before .before .before .before .before .args .members .to)
+          (c .before .before .before .before .before .before .before .before .before .before .loop .work)
+          (c .before .before .before .before .before .before .before .before .before .before .before .before .before .args .tree .from)
+          (c .before .before .before .before .before .before .before .before .before .before .before .before .before .args .tree .to)
           (c .before .before .before .before .before .before .before .before .before .before .loop .to)
-          (c .before .before .before .before .before .before .before .before .before .before .before .before .before .args .stop)
+          (c .before .before .before .before .before .before .before .before .before .before .before .before .before .args .room .to)
           (c .before .before .before .before .before .before .before .before .before .before .before .before .before .args .left)
           (c .before .before .before .before .before .before .before .before .before .loop-test .taken)
           (c .before .before .before .before .before .before .before .before .field-end .ensures)
@@ -1109,14 +1113,14 @@ write-list-loop-again : (t : ℕ) → write-list-lts.Need-loop-again (
   answer-of-reads.Learnt,
 ) (write-list-at t) write-list.Post write-list-Inv-loop write-list-μ-loop
 write-list-loop-again t c = (
-  list-rest (c .before .before .before .before .before .before .before .before .before .before .before .before .before .args .q .now)
+  list-rest (c .before .before .before .before .before .before .before .before .before .before .before .before .before .args .query .now)
       (c .before .before .before .before .before .before .before .before .before .before .loop .at)
-      (c .before .before .before .before .before .before .before .before .before .before .before .before .before .args .ce)
-      (c .before .before .before .before .before .before .before .before .before .before .loop .w)
-      (c .before .before .before .before .before .before .before .before .before .before .before .before .before .args .a)
-      (c .before .before .before .before .before .before .before .before .before .before .before .before .before .args .b)
+      (c .before .before .before .before .before .before .before .before .before .before .before .before .before .args .members .to)
+      (c .before .before .before .before .before .before .before .before .before .before .loop .work)
+      (c .before .before .before .before .before .before .before .before .before .before .before .before .before .args .tree .from)
+      (c .before .before .before .before .before .before .before .before .before .before .before .before .before .args .tree .to)
       (c .before .before .before .before .before .before .before .before .before .before .loop .to)
-      (c .before .before .before .before .before .before .before .before .before .before .before .before .before .args .stop)
+      (c .before .before .before .before .before .before .before .before .before .before .before .before .before .args .room .to)
       (c .before .before .before .before .before .before .before .before .before .before .before .before .before .args .left)
       (c .before .before .before .before .before .before .before .before .before .loop-test .taken)
       (c .before .before .before .before .before .before .before .before .field-end .ensures)
@@ -1127,14 +1131,14 @@ write-list-loop-again t c = (
   c .before .before .before .before .before .before .write-data .kept .0 ∙
       c .before .before .before .before .before .before .before .before .before .before .loop .inv .1,
   λ u r h. c .before .before .before .before .before .before .before .before .before .before .loop .inv .2
-      u r (list-next (c .before .before .before .before .before .before .before .before .before .before .before .before .before .args .q .now)
+      u r (list-next (c .before .before .before .before .before .before .before .before .before .before .before .before .before .args .query .now)
       (c .before .before .before .before .before .before .before .before .before .before .loop .at)
-      (c .before .before .before .before .before .before .before .before .before .before .before .before .before .args .ce)
-      (c .before .before .before .before .before .before .before .before .before .before .loop .w)
-      (c .before .before .before .before .before .before .before .before .before .before .before .before .before .args .a)
-      (c .before .before .before .before .before .before .before .before .before .before .before .before .before .args .b)
+      (c .before .before .before .before .before .before .before .before .before .before .before .before .before .args .members .to)
+      (c .before .before .before .before .before .before .before .before .before .before .loop .work)
+      (c .before .before .before .before .before .before .before .before .before .before .before .before .before .args .tree .from)
+      (c .before .before .before .before .before .before .before .before .before .before .before .before .before .args .tree .to)
       (c .before .before .before .before .before .before .before .before .before .before .loop .to)
-      (c .before .before .before .before .before .before .before .before .before .before .before .before .before .args .stop)
+      (c .before .before .before .before .before .before .before .before .before .before .before .before .before .args .room .to)
       (c .before .before .before .before .before .before .before .before .before .before .before .before .before .args .left)
       (c .before .before .before .before .before .before .before .before .before .loop-test .taken)
       (c .before .before .before .before .before .before .before .before .field-end .ensures)
@@ -1197,12 +1201,12 @@ write-list-returns-2 : (t : ℕ) → write-list-lts.Need-returns-2 (
   answer-of-reads.Learnt,
 ) (write-list-at t) write-list.Post write-list-Inv-loop write-list-μ-loop
 write-list-returns-2 t c =
-    c .before .before .loop .inv .2 (c .before .before .loop .w) (c .answer-of .result)
-    (list-done (c .before .before .before .before .before .args .q .now)
-    (c .before .before .loop .at) (c .before .before .before .before .before .args .ce)
-    (c .before .before .loop .w) (c .before .before .before .before .before .args .a)
-    (c .before .before .before .before .before .args .b) (c .before .before .loop .to)
-    (c .before .before .before .before .before .args .stop)
+    c .before .before .loop .inv .2 (c .before .before .loop .work) (c .answer-of .result)
+    (list-done (c .before .before .before .before .before .args .query .now)
+    (c .before .before .loop .at) (c .before .before .before .before .before .args .members .to)
+    (c .before .before .loop .work) (c .before .before .before .before .before .args .tree .from)
+    (c .before .before .before .before .before .args .tree .to) (c .before .before .loop .to)
+    (c .before .before .before .before .before .args .room .to)
     (c .before .before .before .before .before .args .left) (c .before .before .loop .any)
     (c .answer-of .ensures) (c .before .loop-test .left) ((c .before .before .loop .inv .0) .room))
 

@@ -8,10 +8,11 @@ use Prim.Native.Nat.{ℕ, _+_, _*_, _-_, _≤_}
 use lib.ListN.{length, take}
 use Rattle.areas.specs.AreaLaws.{take-less}
 use Rattle.format.specs.Stand.{treesBytes}
-use Rattle.queries.specs.Steps.{stepCount}
+use Rattle.areas.specs.Area.{span}
+use Rattle.queries.specs.StepLaws.{steps-fewer}
 use Rattle.data.specs.declared.value.Value.{Value}
 use Rattle.paths.specs.Walk.{TellsJoined}
-use Rattle.paths.specs.WalkLaws.{walk-inside, walk-order, walk-places, step-left}
+use Rattle.paths.specs.WalkLaws.{walk-inside, walk-room, walk-places, step-left}
 use Rattle.data.specs.Write.{WalkReady, WroteParts}
 use Rattle.data.specs.WritePathLaws.{
   kept-none,
@@ -56,10 +57,10 @@ use Rattle.data.proofs.data.+write_over+write_walk.{statement}
 use Rattle.data.proofs.data.+write_over+write_walk.Tie.{close}
 
 abbrev μ-write-over : Measures 2 write-over-kinds.ps ℕ
-μ-write-over κs a = 2 * (stepCount (a .1 .1 .0) (a .1 .1 .1 .0) - a .1 .1 .1 .1 .0) + 1
+μ-write-over κs a = 2 * (a .1 .1 .0 .to - a .1 .1 .1 .0) + 1
 
 abbrev μ-write-walk : Measures 2 write-walk-kinds.ps ℕ
-μ-write-walk κs a = 2 * (stepCount (a .1 .1 .0) (a .1 .1 .1 .0) - a .1 .1 .1 .1 .0)
+μ-write-walk κs a = 2 * (a .1 .1 .0 .to - a .1 .1 .1 .0)
 
 abbrev write-over-at : ℕ → In 2 write-over-kinds.ps
 write-over-at t =
@@ -78,14 +79,15 @@ write-walk-below t =
     and 2 write-walk-kinds.ps (falls 2 write-walk-kinds.ps _<_ μ-write-walk t) write-walk.Pre
 
 abbrev write-over-Inv-loop : write-over-lts.InvT-loop
-write-over-Inv-loop w₀ q p e i n a b d stop from₀ to₀ any₀ w from to any =
-    WalkReady treesBytes q p e i w from b to stop n × (d ≤ to) × (length w ≡ length w₀) ×
-    (take d w ≡ take d w₀)
-    × ((u : List ℕ) (r : Value) → TellsJoined q p e i w from b (WroteParts n any w u to stop r) →
-    TellsJoined q p e i w₀ a b (WroteParts n false w₀ u d stop r))
+write-over-Inv-loop work₀ query path i divisor end stop from₀ to₀ any₀ work from to any =
+    WalkReady treesBytes query path i work (span from end) (span to stop) divisor × (to₀ ≤ to) ×
+    (length work ≡ length work₀) × (take to₀ work ≡ take to₀ work₀)
+    × ((u : List ℕ) (r : Value) → TellsJoined query path i work (span from end)
+    (WroteParts divisor any work u (span to stop) r) → TellsJoined query path i work₀
+    (span from₀ end) (WroteParts divisor false work₀ u (span to₀ stop) r))
 
 abbrev write-over-μ-loop : write-over-lts.MeasureT-loop
-write-over-μ-loop w₀ q p e i n a b d stop from₀ to₀ any₀ w from to any = b - from
+write-over-μ-loop work₀ query path i divisor end stop from₀ to₀ any₀ work from to any = end - from
 
 write-over-steps-requires : (t : ℕ) → write-over-lts.Need-steps-requires (
   steps-reads.Asked,
@@ -109,7 +111,7 @@ write-over-steps-requires : (t : ℕ) → write-over-lts.Need-steps-requires (
   answer-of-reads.Asked,
   answer-of-reads.Learnt,
 ) (write-over-at t) write-over.Post write-over-Inv-loop write-over-μ-loop
-write-over-steps-requires t c κs = walk-order ((c .before .before .pre .1) .walk)
+write-over-steps-requires t c κs = walk-room ((c .before .before .pre .1) .walk)
 
 write-over-in-piece-requires : (t : ℕ) → write-over-lts.Need-in-piece-requires (
   steps-reads.Asked,
@@ -235,16 +237,15 @@ write-over-returns : (t : ℕ) → write-over-lts.Need-returns (
   answer-of-reads.Learnt,
 ) (write-over-at t) write-over.Post write-over-Inv-loop write-over-μ-loop
 write-over-returns t c =
-    walked-piece (c .before .before .before .before .before .before .before .before .before .before .args .q .now)
-    (c .before .before .before .before .before .before .before .before .before .before .args .p)
-    (c .before .before .before .before .before .before .before .before .before .before .args .e)
+    walked-piece (c .before .before .before .before .before .before .before .before .before .before .args .query .now)
+    (c .before .before .before .before .before .before .before .before .before .before .args .path)
     (c .before .before .before .before .before .before .before .before .before .before .args .i)
-    (c .before .before .before .before .before .before .before .before .before .before .args .w .now)
-    (c .before .before .before .before .before .before .before .before .before .before .args .a)
-    (c .before .before .before .before .before .before .before .before .before .before .args .b)
-    (c .before .before .before .before .before .before .before .before .before .before .args .d)
-    (c .before .before .before .before .before .before .before .before .before .before .args .stop)
-    (c .before .before .before .before .before .before .before .before .before .before .args .n)
+    (c .before .before .before .before .before .before .before .before .before .before .args .work .now)
+    (c .before .before .before .before .before .before .before .before .before .before .args .trees .from)
+    (c .before .before .before .before .before .before .before .before .before .before .args .trees .to)
+    (c .before .before .before .before .before .before .before .before .before .before .args .room .from)
+    (c .before .before .before .before .before .before .before .before .before .before .args .room .to)
+    (c .before .before .before .before .before .before .before .before .before .before .args .divisor)
     (c .value-of .ensures) ((c .before .before .before .before .before .before .in-piece .ensures
     (c .before .before .before .before .before .if1 .taken)) .0)
     ((c .before .before .before .before .before .before .in-piece .ensures
@@ -281,21 +282,20 @@ write-over-returns-2 : (t : ℕ) → write-over-lts.Need-returns-2 (
   answer-of-reads.Learnt,
 ) (write-over-at t) write-over.Post write-over-Inv-loop write-over-μ-loop
 write-over-returns-2 t c = (
-  kept-here (c .before .before .before .before .before .before .args .w .now)
-      (c .before .before .before .before .before .before .args .d)
-      (c .before .before .before .before .before .before .args .stop)
+  kept-here (c .before .before .before .before .before .before .args .work .now)
+      (c .before .before .before .before .before .before .args .room .from)
+      (c .before .before .before .before .before .before .args .room .to)
       ((c .before .before .before .before .before .before .pre .1) .room),
   over-empty
-      (c .before .before .before .before .before .before .args .q .now)
-      (c .before .before .before .before .before .before .args .p)
-      (c .before .before .before .before .before .before .args .e)
+      (c .before .before .before .before .before .before .args .query .now)
+      (c .before .before .before .before .before .before .args .path)
       (c .before .before .before .before .before .before .args .i)
-      (c .before .before .before .before .before .before .args .w .now)
-      (c .before .before .before .before .before .before .args .a)
-      (c .before .before .before .before .before .before .args .b)
-      (c .before .before .before .before .before .before .args .d)
-      (c .before .before .before .before .before .before .args .stop)
-      (c .before .before .before .before .before .before .args .n) (c .if2 .taken)
+      (c .before .before .before .before .before .before .args .work .now)
+      (c .before .before .before .before .before .before .args .trees .from)
+      (c .before .before .before .before .before .before .args .trees .to)
+      (c .before .before .before .before .before .before .args .room .from)
+      (c .before .before .before .before .before .before .args .room .to)
+      (c .before .before .before .before .before .before .args .divisor) (c .if2 .taken)
       ((c .before .before .before .before .before .before .pre .1) .room),
 )
 
@@ -459,36 +459,34 @@ write-over-returns-3 : (t : ℕ) → write-over-lts.Need-returns-3 (
 ) (write-over-at t) write-over.Post write-over-Inv-loop write-over-μ-loop
 write-over-returns-3 t c = (
   kept-large ((c .before .before .before .before .before .before .before .before .before .before .before .before .before .before .before .before .pre .1) .room)
-      (take-less (c .before .before .before .before .before .before .before .before .before .loop .w)
+      (take-less (c .before .before .before .before .before .before .before .before .before .loop .work)
       (c .before .before .before .before .write-walk .last .0)
-      (c .before .before .before .before .before .before .before .before .before .before .before .before .before .before .before .before .args .d)
+      (c .before .before .before .before .before .before .before .before .before .before .before .before .before .before .before .before .args .room .from)
       (c .before .before .before .before .before .before .before .before .before .loop .to)
       (c .before .before .before .before .before .before .before .before .before .loop .inv .1)
       (c .before .before .before .before .write-walk .ensures .0 .below) ∙
       c .before .before .before .before .before .before .before .before .before .loop .inv .3),
-  over-walked (c .before .before .before .before .before .before .before .before .before .before .before .before .before .before .before .before .args .q .now)
-      (c .before .before .before .before .before .before .before .before .before .before .before .before .before .before .before .before .args .p)
-      (c .before .before .before .before .before .before .before .before .before .before .before .before .before .before .before .before .args .e)
+  over-walked (c .before .before .before .before .before .before .before .before .before .before .before .before .before .before .before .before .args .query .now)
+      (c .before .before .before .before .before .before .before .before .before .before .before .before .before .before .before .before .args .path)
       (c .before .before .before .before .before .before .before .before .before .before .before .before .before .before .before .before .args .i)
-      (c .before .before .before .before .before .before .before .before .before .before .before .before .before .before .before .before .args .w .now)
-      (c .before .before .before .before .before .before .before .before .before .before .before .before .before .before .before .before .args .a)
-      (c .before .before .before .before .before .before .before .before .before .before .before .before .before .before .before .before .args .b)
-      (c .before .before .before .before .before .before .before .before .before .before .before .before .before .before .before .before .args .d)
-      (c .before .before .before .before .before .before .before .before .before .before .before .before .before .before .before .before .args .stop)
-      (c .before .before .before .before .before .before .before .before .before .before .before .before .before .before .before .before .args .n)
+      (c .before .before .before .before .before .before .before .before .before .before .before .before .before .before .before .before .args .work .now)
+      (c .before .before .before .before .before .before .before .before .before .before .before .before .before .before .before .before .args .trees .from)
+      (c .before .before .before .before .before .before .before .before .before .before .before .before .before .before .before .before .args .trees .to)
+      (c .before .before .before .before .before .before .before .before .before .before .before .before .before .before .before .before .args .room .from)
+      (c .before .before .before .before .before .before .before .before .before .before .before .before .before .before .before .before .args .room .to)
+      (c .before .before .before .before .before .before .before .before .before .before .before .before .before .before .before .before .args .divisor)
       (c .before .before .before .before .before .before .before .before .before .before .if2 .left)
       (c .before .before .before .before .before .before .before .before .before .loop .inv .4
       (c .before .before .before .before .write-walk .last .0) Value.TooLarge
-      (walk-stop (c .before .before .before .before .before .before .before .before .before .before .before .before .before .before .before .before .args .q .now)
-      (c .before .before .before .before .before .before .before .before .before .before .before .before .before .before .before .before .args .p)
-      (c .before .before .before .before .before .before .before .before .before .before .before .before .before .before .before .before .args .e)
+      (walk-stop (c .before .before .before .before .before .before .before .before .before .before .before .before .before .before .before .before .args .query .now)
+      (c .before .before .before .before .before .before .before .before .before .before .before .before .before .before .before .before .args .path)
       (c .before .before .before .before .before .before .before .before .before .before .before .before .before .before .before .before .args .i)
-      (c .before .before .before .before .before .before .before .before .before .loop .w)
+      (c .before .before .before .before .before .before .before .before .before .loop .work)
       (c .before .before .before .before .before .before .before .before .before .loop .from)
-      (c .before .before .before .before .before .before .before .before .before .before .before .before .before .before .before .before .args .b)
+      (c .before .before .before .before .before .before .before .before .before .before .before .before .before .before .before .before .args .trees .to)
       (c .before .before .before .before .before .before .before .before .before .loop .to)
-      (c .before .before .before .before .before .before .before .before .before .before .before .before .before .before .before .before .args .stop)
-      (c .before .before .before .before .before .before .before .before .before .before .before .before .before .before .before .before .args .n)
+      (c .before .before .before .before .before .before .before .before .before .before .before .before .before .before .before .before .args .room .to)
+      (c .before .before .before .before .before .before .before .before .before .before .before .before .before .before .before .before .args .divisor)
       (c .before .before .before .before .before .before .before .before .before .loop .any)
       (c .before .before .before .before .before .before .before .before .loop-test .taken)
       (c .before .before .before .before .before .before .field-end .ensures)
@@ -611,24 +609,23 @@ write-over-loop-again t c = (
   ),
   c .before .before .before .before .before .before .write-walk .kept .0 ∙
       c .before .before .before .before .before .before .before .before .before .before .before .loop .inv .2,
-  (take-less (c .before .before .before .before .before .before .before .before .before .before .before .loop .w)
+  (take-less (c .before .before .before .before .before .before .before .before .before .before .before .loop .work)
       (c .before .before .before .before .before .before .write-walk .last .0)
-      (c .before .before .before .before .before .before .before .before .before .before .before .before .before .before .before .before .before .before .args .d)
+      (c .before .before .before .before .before .before .before .before .before .before .before .before .before .before .before .before .before .before .args .room .from)
       (c .before .before .before .before .before .before .before .before .before .before .before .loop .to)
       (c .before .before .before .before .before .before .before .before .before .before .before .loop .inv .1)
       (c .before .before .before .before .before .before .write-walk .ensures .0 .below) ∙
       c .before .before .before .before .before .before .before .before .before .before .before .loop .inv .3),
   λ u r h. c .before .before .before .before .before .before .before .before .before .before .before .loop .inv .4
-      u r (walk-next (c .before .before .before .before .before .before .before .before .before .before .before .before .before .before .before .before .before .before .args .q .now)
-      (c .before .before .before .before .before .before .before .before .before .before .before .before .before .before .before .before .before .before .args .p)
-      (c .before .before .before .before .before .before .before .before .before .before .before .before .before .before .before .before .before .before .args .e)
+      u r (walk-next (c .before .before .before .before .before .before .before .before .before .before .before .before .before .before .before .before .before .before .args .query .now)
+      (c .before .before .before .before .before .before .before .before .before .before .before .before .before .before .before .before .before .before .args .path)
       (c .before .before .before .before .before .before .before .before .before .before .before .before .before .before .before .before .before .before .args .i)
-      (c .before .before .before .before .before .before .before .before .before .before .before .loop .w)
+      (c .before .before .before .before .before .before .before .before .before .before .before .loop .work)
       (c .before .before .before .before .before .before .before .before .before .before .before .loop .from)
-      (c .before .before .before .before .before .before .before .before .before .before .before .before .before .before .before .before .before .before .args .b)
+      (c .before .before .before .before .before .before .before .before .before .before .before .before .before .before .before .before .before .before .args .trees .to)
       (c .before .before .before .before .before .before .before .before .before .before .before .loop .to)
-      (c .before .before .before .before .before .before .before .before .before .before .before .before .before .before .before .before .before .before .args .stop)
-      (c .before .before .before .before .before .before .before .before .before .before .before .before .before .before .before .before .before .before .args .n)
+      (c .before .before .before .before .before .before .before .before .before .before .before .before .before .before .before .before .before .before .args .room .to)
+      (c .before .before .before .before .before .before .before .before .before .before .before .before .before .before .before .before .before .before .args .divisor)
       (c .before .before .before .before .before .before .before .before .before .before .before .loop .any)
       (c .before .before .before .before .before .before .before .before .before .before .loop-test .taken)
       (c .before .before .before .before .before .before .before .before .field-end .ensures)
@@ -718,27 +715,25 @@ write-over-returns-4 t c = (
   kept-answer (c .before .before .loop .any) (c .before .before .loop .to)
       (c .answer-of .ensures) (c .before .before .loop .inv .1)
       ((c .before .before .loop .inv .0) .room) (c .before .before .loop .inv .3),
-  over-walked (c .before .before .before .before .before .before .before .before .before .args .q .now)
-      (c .before .before .before .before .before .before .before .before .before .args .p)
-      (c .before .before .before .before .before .before .before .before .before .args .e)
+  over-walked (c .before .before .before .before .before .before .before .before .before .args .query .now)
+      (c .before .before .before .before .before .before .before .before .before .args .path)
       (c .before .before .before .before .before .before .before .before .before .args .i)
-      (c .before .before .before .before .before .before .before .before .before .args .w .now)
-      (c .before .before .before .before .before .before .before .before .before .args .a)
-      (c .before .before .before .before .before .before .before .before .before .args .b)
-      (c .before .before .before .before .before .before .before .before .before .args .d)
-      (c .before .before .before .before .before .before .before .before .before .args .stop)
-      (c .before .before .before .before .before .before .before .before .before .args .n)
+      (c .before .before .before .before .before .before .before .before .before .args .work .now)
+      (c .before .before .before .before .before .before .before .before .before .args .trees .from)
+      (c .before .before .before .before .before .before .before .before .before .args .trees .to)
+      (c .before .before .before .before .before .before .before .before .before .args .room .from)
+      (c .before .before .before .before .before .before .before .before .before .args .room .to)
+      (c .before .before .before .before .before .before .before .before .before .args .divisor)
       (c .before .before .before .if2 .left)
-      (c .before .before .loop .inv .4 (c .before .before .loop .w) (c .answer-of .result)
-      (walk-done (c .before .before .before .before .before .before .before .before .before .args .q .now)
-      (c .before .before .before .before .before .before .before .before .before .args .p)
-      (c .before .before .before .before .before .before .before .before .before .args .e)
+      (c .before .before .loop .inv .4 (c .before .before .loop .work) (c .answer-of .result)
+      (walk-done (c .before .before .before .before .before .before .before .before .before .args .query .now)
+      (c .before .before .before .before .before .before .before .before .before .args .path)
       (c .before .before .before .before .before .before .before .before .before .args .i)
-      (c .before .before .loop .w) (c .before .before .loop .from)
-      (c .before .before .before .before .before .before .before .before .before .args .b)
+      (c .before .before .loop .work) (c .before .before .loop .from)
+      (c .before .before .before .before .before .before .before .before .before .args .trees .to)
       (c .before .before .loop .to)
-      (c .before .before .before .before .before .before .before .before .before .args .stop)
-      (c .before .before .before .before .before .before .before .before .before .args .n)
+      (c .before .before .before .before .before .before .before .before .before .args .room .to)
+      (c .before .before .before .before .before .before .before .before .before .args .divisor)
       (c .before .before .loop .any) (c .answer-of .ensures) (c .before .loop-test .left)
       ((c .before .before .loop .inv .0) .room))),
 )
@@ -755,7 +750,7 @@ write-walk-steps-requires : (t : ℕ) → write-walk-lts.Need-steps-requires (
   write-over-below t,
   write-over.Post,
 ) (write-walk-at t) write-walk.Post
-write-walk-steps-requires t c κs = walk-order ((c .before .before .pre .1) .walk)
+write-walk-steps-requires t c κs = walk-room ((c .before .before .pre .1) .walk)
 
 write-walk-write-leaf-requires : (t : ℕ) → write-walk-lts.Need-write-leaf-requires (
   steps-reads.Asked,
@@ -813,16 +808,15 @@ write-walk-returns : (t : ℕ) → write-walk-lts.Need-returns (
   write-over.Post,
 ) (write-walk-at t) write-walk.Post
 write-walk-returns t c =
-    walked-leaf (c .before .before .before .before .before .before .before .before .before .args .q .now)
-    (c .before .before .before .before .before .before .before .before .before .args .p)
-    (c .before .before .before .before .before .before .before .before .before .args .e)
+    walked-leaf (c .before .before .before .before .before .before .before .before .before .args .query .now)
+    (c .before .before .before .before .before .before .before .before .before .args .path)
     (c .before .before .before .before .before .before .before .before .before .args .i)
-    (c .before .before .before .before .before .before .before .before .before .args .w .now)
-    (c .before .before .before .before .before .before .before .before .before .args .a)
-    (c .before .before .before .before .before .before .before .before .before .args .b)
-    (c .before .before .before .before .before .before .before .before .before .args .d)
-    (c .before .before .before .before .before .before .before .before .before .args .stop)
-    (c .before .before .before .before .before .before .before .before .before .args .n)
+    (c .before .before .before .before .before .before .before .before .before .args .work .now)
+    (c .before .before .before .before .before .before .before .before .before .args .tree .from)
+    (c .before .before .before .before .before .before .before .before .before .args .tree .to)
+    (c .before .before .before .before .before .before .before .before .before .args .room .from)
+    (c .before .before .before .before .before .before .before .before .before .args .room .to)
+    (c .before .before .before .before .before .before .before .before .before .args .divisor)
     (c .value-of .ensures) (c .before .before .before .before .before .if1 .taken ∙
     c .before .before .before .before .before .before .steps .ensures)
     (c .before .before .before .write-leaf .ensures)
@@ -901,20 +895,19 @@ write-walk-returns-2 : (t : ℕ) → write-walk-lts.Need-returns-2 (
   write-over.Post,
 ) (write-walk-at t) write-walk.Post
 write-walk-returns-2 t c = (
-  kept-none (c .before .before .before .before .before .before .before .before .args .w .now)
-      (c .before .before .before .before .before .before .before .before .args .d)
-      (c .before .before .before .before .before .before .before .before .args .stop)
+  kept-none (c .before .before .before .before .before .before .before .before .args .work .now)
+      (c .before .before .before .before .before .before .before .before .args .room .from)
+      (c .before .before .before .before .before .before .before .before .args .room .to)
       ((c .before .before .before .before .before .before .before .before .pre .1) .room),
-  walk-missing (c .before .before .before .before .before .before .before .before .args .q .now)
-      (c .before .before .before .before .before .before .before .before .args .p)
-      (c .before .before .before .before .before .before .before .before .args .e)
+  walk-missing (c .before .before .before .before .before .before .before .before .args .query .now)
+      (c .before .before .before .before .before .before .before .before .args .path)
       (c .before .before .before .before .before .before .before .before .args .i)
-      (c .before .before .before .before .before .before .before .before .args .w .now)
-      (c .before .before .before .before .before .before .before .before .args .a)
-      (c .before .before .before .before .before .before .before .before .args .b)
-      (c .before .before .before .before .before .before .before .before .args .d)
-      (c .before .before .before .before .before .before .before .before .args .stop)
-      (c .before .before .before .before .before .before .before .before .args .n)
+      (c .before .before .before .before .before .before .before .before .args .work .now)
+      (c .before .before .before .before .before .before .before .before .args .tree .from)
+      (c .before .before .before .before .before .before .before .before .args .tree .to)
+      (c .before .before .before .before .before .before .before .before .args .room .from)
+      (c .before .before .before .before .before .before .before .before .args .room .to)
+      (c .before .before .before .before .before .before .before .before .args .divisor)
       (step-left ((c .before .before .before .before .before .before .before .before .pre .1) .walk)
       (c .before .before .before .before .before .steps .ensures)
       (c .before .before .before .before .if1 .left)) (c .before .before .under .ensures)
@@ -940,6 +933,8 @@ write-walk-add-write-over t c =
           ((c .before .before .before .before .before .before .before .before .before .before .pre .1) .walk)
           (c .before .before .before .before .before .before .before .steps .ensures)
           (c .before .before .before .before .before .before .if1 .left)),
+      (steps-fewer (c .before .before .before .before .before .before .before .before .before .before .args .query .now)
+          (c .before .before .before .before .before .before .before .before .before .before .args .path)),
     )
 
 write-walk-write-over-requires : (t : ℕ) → write-walk-lts.Need-write-over-requires (
@@ -961,9 +956,10 @@ write-walk-write-over-requires t c κs = (
     (step-left ((c .before .before .before .before .before .before .before .before .before .before .pre .1) .walk)
         (c .before .before .before .before .before .before .before .steps .ensures)
         (c .before .before .before .before .before .before .if1 .left)),
+    (steps-fewer (c .before .before .before .before .before .before .before .before .before .before .args .query .now)
+        (c .before .before .before .before .before .before .before .before .before .before .args .path)),
   ),
-  ready-under
-      (c .before .before .before .before .before .before .before .before .before .before .pre .1)
+  ready-under (c .before .before .before .before .before .before .before .before .before .before .pre .1)
       (step-left ((c .before .before .before .before .before .before .before .before .before .before .pre .1) .walk)
       (c .before .before .before .before .before .before .before .steps .ensures)
       (c .before .before .before .before .before .before .if1 .left))
@@ -999,16 +995,15 @@ write-walk-returns-3 : (t : ℕ) → write-walk-lts.Need-returns-3 (
 write-walk-returns-3 t c = (
   c .before .before .write-over .ensures .0,
   walk-under
-      (c .before .before .before .before .before .before .before .before .before .before .before .before .before .args .q .now)
-      (c .before .before .before .before .before .before .before .before .before .before .before .before .before .args .p)
-      (c .before .before .before .before .before .before .before .before .before .before .before .before .before .args .e)
+      (c .before .before .before .before .before .before .before .before .before .before .before .before .before .args .query .now)
+      (c .before .before .before .before .before .before .before .before .before .before .before .before .before .args .path)
       (c .before .before .before .before .before .before .before .before .before .before .before .before .before .args .i)
-      (c .before .before .before .before .before .before .before .before .before .before .before .before .before .args .w .now)
-      (c .before .before .before .before .before .before .before .before .before .before .before .before .before .args .a)
-      (c .before .before .before .before .before .before .before .before .before .before .before .before .before .args .b)
-      (c .before .before .before .before .before .before .before .before .before .before .before .before .before .args .d)
-      (c .before .before .before .before .before .before .before .before .before .before .before .before .before .args .stop)
-      (c .before .before .before .before .before .before .before .before .before .before .before .before .before .args .n)
+      (c .before .before .before .before .before .before .before .before .before .before .before .before .before .args .work .now)
+      (c .before .before .before .before .before .before .before .before .before .before .before .before .before .args .tree .from)
+      (c .before .before .before .before .before .before .before .before .before .before .before .before .before .args .tree .to)
+      (c .before .before .before .before .before .before .before .before .before .before .before .before .before .args .room .from)
+      (c .before .before .before .before .before .before .before .before .before .before .before .before .before .args .room .to)
+      (c .before .before .before .before .before .before .before .before .before .before .before .before .before .args .divisor)
       (step-left ((c .before .before .before .before .before .before .before .before .before .before .before .before .before .pre .1) .walk)
       (c .before .before .before .before .before .before .before .before .before .before .steps .ensures)
       (c .before .before .before .before .before .before .before .before .before .if1 .left))

@@ -49,13 +49,13 @@ returns c = (
       (c .before .before .before .before .before .before .before .pre .room)
       (c .before .before .before .before .copy .ensures)),
   leaf-large
-      (c .before .before .before .before .before .before .before .args .w .now)
+      (c .before .before .before .before .before .before .before .args .work .now)
       (c .before .before .before .before .copy .last .0)
-      (c .before .before .before .before .before .before .before .args .a)
-      (c .before .before .before .before .before .before .before .args .b)
-      (c .before .before .before .before .before .before .before .args .d)
-      (c .before .before .before .before .before .before .before .args .stop)
-      (c .before .before .before .before .before .before .before .args .n)
+      (c .before .before .before .before .before .before .before .args .tree .from)
+      (c .before .before .before .before .before .before .before .args .tree .to)
+      (c .before .before .before .before .before .before .before .args .room .from)
+      (c .before .before .before .before .before .before .before .args .room .to)
+      (c .before .before .before .before .before .before .before .args .divisor)
       (c .before .before .before .before .copy .ensures) (c .enum-told .given .1),
 )
 
@@ -74,13 +74,13 @@ returns-2 c = (
       (c .before .before .before .before .before .before .before .before .before .pre .room)
       (c .before .before .before .before .before .before .copy .ensures)),
   leaf-plain
-      (c .before .before .before .before .before .before .before .before .before .args .w .now)
+      (c .before .before .before .before .before .before .before .before .before .args .work .now)
       (c .before .before .before .before .before .before .copy .last .0)
-      (c .before .before .before .before .before .before .before .before .before .args .a)
-      (c .before .before .before .before .before .before .before .before .before .args .b)
-      (c .before .before .before .before .before .before .before .before .before .args .d)
-      (c .before .before .before .before .before .before .before .before .before .args .stop)
-      (c .before .before .before .before .before .before .before .before .before .args .n)
+      (c .before .before .before .before .before .before .before .before .before .args .tree .from)
+      (c .before .before .before .before .before .before .before .before .before .args .tree .to)
+      (c .before .before .before .before .before .before .before .before .before .args .room .from)
+      (c .before .before .before .before .before .before .before .before .before .args .room .to)
+      (c .before .before .before .before .before .before .before .before .before .args .divisor)
       (c .before .before .before .before .before .before .copy .ensures)
       (c .before .before .r .given .1) (c .if1 .taken),
 )
@@ -92,13 +92,13 @@ slice-read-if2 : tie.Need-slice-read-if2
 slice-read-if2 c =
     omega (
       arith,
-      leaf-room (c .before .before .before .before .before .before .before .before .before .before .args .w .now)
+      leaf-room (c .before .before .before .before .before .before .before .before .before .before .args .work .now)
           (c .before .before .before .before .before .before .before .copy .last .0)
-          (c .before .before .before .before .before .before .before .before .before .before .args .a)
-          (c .before .before .before .before .before .before .before .before .before .before .args .b)
-          (c .before .before .before .before .before .before .before .before .before .before .args .d)
-          (c .before .before .before .before .before .before .before .before .before .before .args .stop)
-          (c .before .before .before .before .before .before .before .before .before .before .args .n)
+          (c .before .before .before .before .before .before .before .before .before .before .args .tree .from)
+          (c .before .before .before .before .before .before .before .before .before .before .args .tree .to)
+          (c .before .before .before .before .before .before .before .before .before .before .args .room .from)
+          (c .before .before .before .before .before .before .before .before .before .before .args .room .to)
+          (c .before .before .before .before .before .before .before .before .before .before .args .divisor)
           (c .before .before .before .before .before .before .before .copy .ensures)
           (c .before .before .before .r .given .1)
           (omega (
@@ -124,13 +124,13 @@ returns-3 c = (
       (c .before .before .before .before .before .before .before .before .before .before .before .pre .room)
       (c .before .before .before .before .before .before .before .before .copy .ensures)),
   leaf-other
-      (c .before .before .before .before .before .before .before .before .before .before .before .args .w .now)
+      (c .before .before .before .before .before .before .before .before .before .before .before .args .work .now)
       (c .before .before .before .before .before .before .before .before .copy .last .0)
-      (c .before .before .before .before .before .before .before .before .before .before .before .args .a)
-      (c .before .before .before .before .before .before .before .before .before .before .before .args .b)
-      (c .before .before .before .before .before .before .before .before .before .before .before .args .d)
-      (c .before .before .before .before .before .before .before .before .before .before .before .args .stop)
-      (c .before .before .before .before .before .before .before .before .before .before .before .args .n)
+      (c .before .before .before .before .before .before .before .before .before .before .before .args .tree .from)
+      (c .before .before .before .before .before .before .before .before .before .before .before .args .tree .to)
+      (c .before .before .before .before .before .before .before .before .before .before .before .args .room .from)
+      (c .before .before .before .before .before .before .before .before .before .before .before .args .room .to)
+      (c .before .before .before .before .before .before .before .before .before .before .before .args .divisor)
       (c .before .before .before .before .before .before .before .before .copy .ensures)
       (c .before .before .before .before .r .given .1)
       (omega (
@@ -146,13 +146,13 @@ add-reduce-at c = search needs
 
 reduce-at-requires : tie.Need-reduce-at-requires
 reduce-at-requires c κs = (
-  leaf-integer (c .before .before .before .before .before .before .before .before .before .before .before .before .args .w .now)
+  leaf-integer (c .before .before .before .before .before .before .before .before .before .before .before .before .args .work .now)
       (c .before .before .before .before .before .before .before .before .before .copy .last .0)
-      (c .before .before .before .before .before .before .before .before .before .before .before .before .args .a)
-      (c .before .before .before .before .before .before .before .before .before .before .before .before .args .b)
-      (c .before .before .before .before .before .before .before .before .before .before .before .before .args .d)
-      (c .before .before .before .before .before .before .before .before .before .before .before .before .args .stop)
-      (c .before .before .before .before .before .before .before .before .before .before .before .before .args .n)
+      (c .before .before .before .before .before .before .before .before .before .before .before .before .args .tree .from)
+      (c .before .before .before .before .before .before .before .before .before .before .before .before .args .tree .to)
+      (c .before .before .before .before .before .before .before .before .before .before .before .before .args .room .from)
+      (c .before .before .before .before .before .before .before .before .before .before .before .before .args .room .to)
+      (c .before .before .before .before .before .before .before .before .before .before .before .before .args .divisor)
       (c .before .before .before .before .before .before .before .before .before .copy .ensures)
       (c .before .before .before .before .before .r .given .1)
       (omega (
@@ -171,7 +171,7 @@ same-length-4 c = search needs
 
 returns-4 : tie.Need-returns-4
 returns-4 c = (
-  kept-more (c .before .before .before .before .before .before .before .before .before .before .before .before .before .before .before .args .d
+  kept-more (c .before .before .before .before .before .before .before .before .before .before .before .before .before .before .before .args .room .from
       + 6) (omega arith) (c .before .before .reduce-at .ensures .0)
       (kept-same (c .before .before .before .before .before .before .before .before .r .given .1)
       (wrote-kept (c .before .before .before .before .before .before .before .before .before .before .before .before .copy .result)
@@ -182,13 +182,13 @@ returns-4 c = (
       ))
       (c .before .before .before .before .before .before .before .before .before .before .before .before .before .before .before .pre .room)
       (c .before .before .before .before .before .before .before .before .before .before .before .before .copy .ensures))),
-  leaf-reduced (c .before .before .before .before .before .before .before .before .before .before .before .before .before .before .before .args .w .now)
+  leaf-reduced (c .before .before .before .before .before .before .before .before .before .before .before .before .before .before .before .args .work .now)
       (c .before .before .before .before .before .before .before .before .before .before .before .before .copy .last .0)
-      (c .before .before .before .before .before .before .before .before .before .before .before .before .before .before .before .args .a)
-      (c .before .before .before .before .before .before .before .before .before .before .before .before .before .before .before .args .b)
-      (c .before .before .before .before .before .before .before .before .before .before .before .before .before .before .before .args .d)
-      (c .before .before .before .before .before .before .before .before .before .before .before .before .before .before .before .args .stop)
-      (c .before .before .before .before .before .before .before .before .before .before .before .before .before .before .before .args .n)
+      (c .before .before .before .before .before .before .before .before .before .before .before .before .before .before .before .args .tree .from)
+      (c .before .before .before .before .before .before .before .before .before .before .before .before .before .before .before .args .tree .to)
+      (c .before .before .before .before .before .before .before .before .before .before .before .before .before .before .before .args .room .from)
+      (c .before .before .before .before .before .before .before .before .before .before .before .before .before .before .before .args .room .to)
+      (c .before .before .before .before .before .before .before .before .before .before .before .before .before .before .before .args .divisor)
       (c .before .before .before .before .before .before .before .before .before .before .before .before .copy .ensures)
       (c .before .before .before .before .before .before .before .before .r .given .1)
       (omega (

@@ -15,16 +15,14 @@ same-length c = search needs
 
 returns : tie.Need-returns
 returns c =
-    path-plain (c .before .before .before .before .before .before .args .q .now)
-    (c .before .before .before .before .before .before .args .p)
-    (c .before .before .before .before .before .before .args .e)
-    (c .before .before .before .before .before .before .args .i)
-    (c .before .before .before .before .before .before .args .w .now)
+    path-plain (c .before .before .before .before .before .before .args .query .now)
+    (c .before .before .before .before .before .before .args .path) 0
+    (c .before .before .before .before .before .before .args .work .now)
     (c .before .before .write-walk .last .0)
-    (c .before .before .before .before .before .before .args .a)
-    (c .before .before .before .before .before .before .args .b)
-    (c .before .before .before .before .before .before .args .d)
-    (c .before .before .before .before .before .before .args .stop)
+    (c .before .before .before .before .before .before .args .tree .from)
+    (c .before .before .before .before .before .before .args .tree .to)
+    (c .before .before .before .before .before .before .args .room .from)
+    (c .before .before .before .before .before .before .args .room .to)
     (c .before .before .write-walk .result) (c .before .before .write-walk .ensures .1)
 
 pub write-path-spec : {M : Type 1} → statement M

@@ -17,8 +17,9 @@ div-result c = search needs
 
 returns : tie.Need-returns
 returns c = (
-  omega (arith, near-le (c .before .args .n) (c .before .args .x) (c .before .pre .0)),
-  reduce-pos (c .before .args .x) (c .before .args .n) (c .before .pre .0) (c .if1 .taken),
+  omega (arith, near-le (c .before .args .divisor) (c .before .args .bits) (c .before .pre .0)),
+  reduce-pos (c .before .args .bits) (c .before .args .divisor) (c .before .pre .0)
+      (c .if1 .taken),
 )
 
 sub-m : tie.Need-sub-m
@@ -36,8 +37,8 @@ div-k c = search needs
 returns-2 : tie.Need-returns-2
 returns-2 c = (
   omega arith,
-  reduce-zero (c .before .before .args .x) (c .before .before .args .n)
-      (c .before .before .pre .0) (c .before .if1 .left) (c .before .before .fits .x .fits) _ refl
+  reduce-zero (c .before .before .args .bits) (c .before .before .args .divisor)
+      (c .before .before .pre .0) (c .before .if1 .left) (c .before .before .fits .bits .fits) _ refl
       (c .if2 .taken),
 )
 
@@ -45,8 +46,8 @@ sub-result : tie.Need-sub-result
 sub-result c =
     omega (
       arith,
-      near-le (c .before .before .args .n)
-          (18446744073709551615 - c .before .before .args .x + 1) (c .before .before .pre .0),
+      near-le (c .before .before .args .divisor)
+          (18446744073709551615 - c .before .before .args .bits + 1) (c .before .before .pre .0),
     )
 
 add-result-2 : tie.Need-add-result-2
@@ -55,8 +56,8 @@ add-result-2 c = search needs
 returns-3 : tie.Need-returns-3
 returns-3 c = (
   omega arith,
-  reduce-neg (c .before .before .args .x) (c .before .before .args .n)
-      (c .before .before .pre .0) (c .before .if1 .left) (c .before .before .fits .x .fits) _ refl
+  reduce-neg (c .before .before .args .bits) (c .before .before .args .divisor)
+      (c .before .before .pre .0) (c .before .if1 .left) (c .before .before .fits .bits .fits) _ refl
       (c .if2 .left),
 )
 

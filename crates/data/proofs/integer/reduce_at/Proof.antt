@@ -7,34 +7,34 @@ use Rattle.data.proofs.integer.reduce_at.Statement.{statement}
 use Rattle.data.proofs.integer.reduce_at.Tie as tie
 use Rattle.data.proofs.integer.reduce_at.Reads as reads
 use Rattle.data.proofs.integer.reduce_at.Lts as lts
-use Rattle.data.proofs.integer.get.Reads as get-reads
-use Rattle.data.proofs.integer.put.Reads as put-reads
+use Rattle.areas.proofs.number.put_word.Reads as put-word-reads
+use Rattle.areas.proofs.number.word_at.Reads as word-at-reads
 use Rattle.data.proofs.integer.reduce.Reads as reduce-reads
 
-get-requires : tie.Need-get-requires
-get-requires c κs = search needs
+word-at-requires : tie.Need-word-at-requires
+word-at-requires c κs = search needs
 
 reduce-requires : tie.Need-reduce-requires
 reduce-requires c κs = search needs
 
-put-requires : tie.Need-put-requires
-put-requires c κs = search needs
+put-word-requires : tie.Need-put-word-requires
+put-word-requires c κs = search needs
 
 same-length : tie.Need-same-length
 same-length c = search needs
 
 returns : tie.Need-returns
 returns c = (
-  wrote-keep (c .before .before .put .ensures) (omega arith),
-  reduces
-      (c .before .before .before .before .before .before .before .before .args .w .now)
-      (c .before .before .put .last .0)
+  wrote-keep (c .before .before .put-word .ensures) (omega arith),
+  reduces (c .before .before .before .before .before .before .before .before .args .work .now)
+      (c .before .before .put-word .last .0)
       (c .before .before .before .before .before .before .before .before .args .at)
-      (c .before .before .before .before .before .before .before .before .args .n)
-      (c .before .before .before .before .before .get .ensures)
-      (c .before .before .before .reduce .ensures .0) (c .before .before .before .reduce .ensures .1)
-      (c .before .before .put .ensures),
+      (c .before .before .before .before .before .before .before .before .args .divisor)
+      (c .before .before .before .before .before .word-at .ensures)
+      (c .before .before .before .reduce .ensures .0)
+      (c .before .before .before .reduce .ensures .1) (c .before .before .put-word .ensures),
 )
 
 pub reduce-at-spec : {M : Type 1} → statement M
-reduce-at-spec = tie.close (tie.spec get-requires reduce-requires put-requires same-length returns)
+reduce-at-spec =
+    tie.close (tie.spec word-at-requires reduce-requires put-word-requires same-length returns)

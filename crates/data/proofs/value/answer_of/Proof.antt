@@ -9,10 +9,10 @@ use Rattle.data.proofs.value.answer_of.Reads as reads
 use Rattle.data.proofs.value.answer_of.Lts as lts
 
 returns : tie.Need-returns
-returns c = sym (ap (λ (s : Bool). answerOf s (c .before .args .d)) (c .if1 .taken))
+returns c = sym (ap (λ (s : Bool). answerOf s (c .before .args .at)) (c .if1 .taken))
 
 returns-2 : tie.Need-returns-2
-returns-2 c = sym (ap (λ (s : Bool). answerOf s (c .before .args .d)) (c .if1 .left))
+returns-2 c = sym (ap (λ (s : Bool). answerOf s (c .before .args .at)) (c .if1 .left))
 
 pub answer-of-spec : {M : Type 1} → statement M
 answer-of-spec = tie.close (tie.spec returns returns-2)

@@ -7,17 +7,17 @@ use Rattle.data.proofs.value.value_of.Tie as tie
 use Rattle.data.proofs.value.value_of.Reads as reads
 use Rattle.data.proofs.value.value_of.Lts as lts
 
-enum-known-r : tie.Need-enum-known-r
-enum-known-r c = search needs
+enum-known-written : tie.Need-enum-known-written
+enum-known-written c = search needs
 
 enum-told : tie.Need-enum-told
 enum-told c = search needs
 
 returns : tie.Need-returns
-returns c = sym (ap valueOf (c .before .r .given .1))
+returns c = sym (ap valueOf (c .before .written .given .1))
 
 returns-2 : tie.Need-returns-2
 returns-2 c = search needs
 
 pub value-of-spec : {M : Type 1} → statement M
-value-of-spec = tie.close (tie.spec enum-known-r enum-told returns returns-2)
+value-of-spec = tie.close (tie.spec enum-known-written enum-told returns returns-2)

@@ -26,8 +26,8 @@ returns : tie.Need-returns
 returns c =
     failed-room (c .before .before .before .before .before .before .before .args .result .now)
     (c .before .before .fail .ensures)
-    (c .before .before .before .before .before .before .before .args .w .now)
-    (c .before .before .before .before .before .before .before .args .n) refl
+    (c .before .before .before .before .before .before .before .args .work .now)
+    (c .before .before .before .before .before .before .before .args .len) refl
     (c .before .before .before .before .before .before .before .pre .short)
     (c .before .before .before .before .if1 .taken)
 
@@ -42,7 +42,7 @@ slice-relend-prefix-write-array c = search needs
 
 slice-aggregate-write-array : tie.Need-slice-aggregate-write-array
 slice-aggregate-write-array c =
-    sym (length-take-le (c .before .before .before .before .args .n + 3)
+    sym (length-take-le (c .before .before .before .before .args .len + 3)
     (c .before .before .before .before .args .result .now) (omega (arith, c .before .if1 .left)))
 
 add-write-array-2 : tie.Need-add-write-array-2
@@ -59,10 +59,10 @@ part-write-array-end c = search needs
 
 write-array-requires : tie.Need-write-array-requires
 write-array-requires c κs =
-    accept-array _ (take (c .before .before .before .before .before .args .n + 3)
+    accept-array _ (take (c .before .before .before .before .before .args .len + 3)
     (c .before .before .before .before .before .args .result .now)) refl
     (c .before .before .before .before .before .pre)
-    (length-take-le (c .before .before .before .before .before .args .n + 3)
+    (length-take-le (c .before .before .before .before .before .args .len + 3)
     (c .before .before .before .before .before .args .result .now)
     (omega (arith, c .before .before .if1 .left)))
 
@@ -74,8 +74,8 @@ same-length-2 c = search needs
 
 returns-2 : tie.Need-returns-2
 returns-2 c =
-    accepted-room (c .before .before .before .before .before .before .before .before .args .w .now)
-    (c .before .before .before .before .before .before .before .before .args .n)
+    accepted-room (c .before .before .before .before .before .before .before .before .args .work .now)
+    (c .before .before .before .before .before .before .before .before .args .len)
     (c .before .before .before .before .before .before .before .before .args .result .now) _ refl
     (c .before .before .before .before .before .before .before .before .pre .short)
     (omega (arith, c .before .before .before .before .before .if1 .left))

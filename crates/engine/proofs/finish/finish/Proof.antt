@@ -15,13 +15,13 @@ use Rattle.engine.proofs.finish.finish.Lts as lts
 use Rattle.engine.proofs.finish.accept.Reads as accept-reads
 use Rattle.engine.proofs.finish.fail.Reads as fail-reads
 
-enum-known-r : tie.Need-enum-known-r
-enum-known-r c = search needs
+enum-known-ended : tie.Need-enum-known-ended
+enum-known-ended c = search needs
 
 accept-requires : tie.Need-accept-requires
 accept-requires c κs =
     held-accept (c .before .before .before .before .before .before .pre)
-    (c .before .before .r .given .1)
+    (c .before .before .ended .given .1)
 
 enum-told : tie.Need-enum-told
 enum-told c = search needs
@@ -47,7 +47,8 @@ same-length c = search needs
 returns : tie.Need-returns
 returns c =
     held-finish (c .before .before .before .before .before .before .before .before .before .args .result .now)
-    (c .before .before .before .before .before .r .given .1) (c .before .before .accept .ensures)
+    (c .before .before .before .before .before .ended .given .1)
+    (c .before .before .accept .ensures)
 
 same-length-2 : tie.Need-same-length-2
 same-length-2 c = search needs
@@ -80,7 +81,7 @@ pub finish-spec : {M : Type 1} → statement M
 finish-spec =
     tie.close
     (tie.spec
-    enum-known-r
+    enum-known-ended
     accept-requires
     enum-told
     fail-requires

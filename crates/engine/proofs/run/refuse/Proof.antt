@@ -2,6 +2,7 @@
 use mathlib.Core.Path.{refl}
 use native.Mathlib.Omega.{arith}
 use lib.ListN.{length}
+use Rattle.spec_trees.specs.Limits.{workMin}
 use Rattle.spec_trees.specs.OptionLaws.{leb-yes, leb-no}
 use borrow.Author.Needs.{needs}
 use Rattle.engine.proofs.run.refuse.Statement.{statement}
@@ -12,7 +13,7 @@ use Rattle.areas.proofs.area.clear.Reads as clear-reads
 
 returns : tie.Need-returns
 returns c =
-    (refl, rw (leb-no 65536 (length (c .before .before .args .work .now)) (c .if1 .taken)) refl)
+    (refl, rw (leb-no workMin (length (c .before .before .args .work .now)) (c .if1 .taken)) refl)
 
 clear-requires : tie.Need-clear-requires
 clear-requires c κs = search needs
@@ -23,7 +24,7 @@ same-length c = search needs
 returns-2 : tie.Need-returns-2
 returns-2 c = (
   refl,
-  rw (leb-yes 65536
+  rw (leb-yes workMin
       (length (c .before .before .before .before .before .before .args .work .now))
       (omega (arith, c .before .before .before .before .if1 .left)))
       (c .before .before .clear .ensures),

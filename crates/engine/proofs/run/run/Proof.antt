@@ -3,6 +3,7 @@ use mathlib.Core.Path.{sym, _∙_}
 use Prim.Native.Nat.{_<_}
 use native.Mathlib.Omega.{arith}
 use lib.Seq.{length-take-le}
+use Rattle.spec_trees.specs.Limits.{workMin}
 use Rattle.spec_trees.specs.ListLaws.{All-of}
 use Rattle.spec_run.specs.Run.{call}
 use Rattle.engine.specs.PerformLaws.{
@@ -58,7 +59,7 @@ slice-relend-prefix-perform c =
 
 slice-aggregate-perform : tie.Need-slice-aggregate-perform
 slice-aggregate-perform c =
-    sym (length-take-le 65536
+    sym (length-take-le workMin
     ((c .before .before .before .before .before .before .before .before .before .args .work .now))
     (passed-enough (call ((c .before .before .before .before .before .before .before .before .before .args .query .now))
     ((c .before .before .before .before .before .before .before .before .before .args .input .now))
@@ -112,7 +113,7 @@ perform-requires c κs = (
             k,
       ))) (sym (c .before .before .before .before .check-call .ensures) ∙
       c .before .before .enum-told .given .1),
-  (length-take-le 65536 ((c .before .before .before .before .before .before .before .before .before .before .args .work .now))
+  (length-take-le workMin ((c .before .before .before .before .before .before .before .before .before .before .args .work .now))
       (passed-enough (call ((c .before .before .before .before .before .before .before .before .before .before .args .query .now))
       ((c .before .before .before .before .before .before .before .before .before .before .args .input .now))
       ((c .before .before .before .before .before .before .before .before .before .before .args .joined .now))
@@ -151,7 +152,7 @@ refuse-requires c κs = search needs
 
 same-length : tie.Need-same-length
 same-length c =
-    c .before .before .clear .kept .0 ∙ lent-length 65536
+    c .before .before .clear .kept .0 ∙ lent-length workMin
     ((c .before .before .before .before .before .before .before .before .before .before .before .before .before .before .before .before .before .before .before .args .work .now))
     (c .before .before .before .before .before .before .before .before .perform .last .1 .1 .1 .0)
     (passed-enough (call ((c .before .before .before .before .before .before .before .before .before .before .before .before .before .before .before .before .before .before .before .args .query .now))
@@ -212,7 +213,7 @@ returns c =
     ))) (sym (c .before .before .before .before .before .before .before .before .before .before .before .before .before .check-call .ensures)
     ∙ c .before .before .before .before .before .before .before .before .before .before .before .enum-told .given .1)
     (c .before .before .before .before .before .before .before .before .perform .ensures)
-    (lent-clear 65536 ((c .before .before .before .before .before .before .before .before .before .before .before .before .before .before .before .before .before .before .before .args .work .now))
+    (lent-clear workMin ((c .before .before .before .before .before .before .before .before .before .before .before .before .before .before .before .before .before .before .before .args .work .now))
     (c .before .before .before .before .before .before .before .before .perform .last .1 .1 .1 .0)
     (passed-enough (call ((c .before .before .before .before .before .before .before .before .before .before .before .before .before .before .before .before .before .before .before .args .query .now))
     ((c .before .before .before .before .before .before .before .before .before .before .before .before .before .before .before .before .before .before .before .args .input .now))

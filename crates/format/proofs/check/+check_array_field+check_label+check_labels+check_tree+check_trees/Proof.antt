@@ -63,19 +63,19 @@ use Rattle.format.proofs.check.+check_array_field+check_label+check_lab
 }
 
 abbrev μ-check-array-field : Measures 1 check-array-field-kinds.ps ℕ
-μ-check-array-field κs a = 5 * a .1 .1 .1 .1 .0 + 2
+μ-check-array-field κs a = 5 * a .1 .1 .1 .0 + 2
 
 abbrev μ-check-label : Measures 1 check-label-kinds.ps ℕ
-μ-check-label κs a = 5 * a .1 .1 .1 .1 .1 .0 + 3
+μ-check-label κs a = 5 * a .1 .1 .1 .1 .0 + 3
 
 abbrev μ-check-labels : Measures 1 check-labels-kinds.ps ℕ
-μ-check-labels κs a = 5 * a .1 .1 .1 .0 + 4
+μ-check-labels κs a = 5 * a .1 .1 .0 + 4
 
 abbrev μ-check-tree : Measures 1 check-tree-kinds.ps ℕ
-μ-check-tree κs a = 5 * a .1 .1 .1 .1 .0
+μ-check-tree κs a = 5 * a .1 .1 .1 .0
 
 abbrev μ-check-trees : Measures 1 check-trees-kinds.ps ℕ
-μ-check-trees κs a = 5 * a .1 .1 .1 .0 + 1
+μ-check-trees κs a = 5 * a .1 .1 .0 + 1
 
 abbrev check-array-field-at : ℕ → In 1 check-array-field-kinds.ps
 check-array-field-at t =
@@ -188,11 +188,12 @@ check-label-returns-2 : (t : ℕ) → check-label-lts.Need-returns-2 (
   check-array-field.Post,
 ) (check-label-at t) check-label.Post
 check-label-returns-2 t c =
-    sym (label-empty (now (c .before .before .before .args .s))
-    (c .before .before .before .args .at) (c .before .before .before .args .to)
-    (c .before .before .before .args .left) (c .before .before .before .args .last)
-    (c .before .before .before .args .tag) (c .before .before .before .pre .1 .1)
-    (c .before .before .before .pre .1 .0) (c .if2 .taken))
+    sym (label-empty (now (c .before .before .before .before .args .area))
+    (c .before .before .before .before .args .field .from)
+    (c .before .before .before .before .args .field .to)
+    (c .before .before .before .before .args .left) (c .before .before .before .before .args .last)
+    (c .before .before .before .before .args .tag) (c .before .before .before .before .pre .1 .1)
+    (c .before .before .before .before .pre .1 .0) (c .if2 .taken))
 
 check-label-label-at-requires : (t : ℕ) → check-label-lts.Need-label-at-requires (
   label-at-reads.Asked,
@@ -217,15 +218,15 @@ check-label-returns-3 : (t : ℕ) → check-label-lts.Need-returns-3 (
   check-array-field.Post,
 ) (check-label-at t) check-label.Post
 check-label-returns-3 t c =
-    sym (label-low (now (c .before .before .before .before .before .args .s))
-    (c .before .before .before .before .before .args .at)
-    (c .before .before .before .before .before .args .to)
-    (c .before .before .before .before .before .args .left)
-    (c .before .before .before .before .before .args .last)
-    (c .before .before .before .before .before .args .tag)
-    (c .before .before .before .before .before .pre .1 .1) (c .before .before .before .if1 .left)
-    (c .before .before .if2 .left) (c .before .label-at .result) (c .before .label-at .ensures)
-    (c .if3 .taken))
+    sym (label-low (now (c .before .before .before .before .before .before .args .area))
+    (c .before .before .before .before .before .before .args .field .from)
+    (c .before .before .before .before .before .before .args .field .to)
+    (c .before .before .before .before .before .before .args .left)
+    (c .before .before .before .before .before .before .args .last)
+    (c .before .before .before .before .before .before .args .tag)
+    (c .before .before .before .before .before .before .pre .1 .1)
+    (c .before .before .before .before .if1 .left) (c .before .before .if2 .left)
+    (c .before .label-at .result) (c .before .label-at .ensures) (c .if3 .taken))
 
 check-label-label-number-requires : (t : ℕ) → check-label-lts.Need-label-number-requires (
   label-at-reads.Asked,
@@ -250,14 +251,14 @@ check-label-returns-4 : (t : ℕ) → check-label-lts.Need-returns-4 (
   check-array-field.Post,
 ) (check-label-at t) check-label.Post
 check-label-returns-4 t c =
-    sym (label-high (now (c .before .before .before .before .before .before .before .args .s))
-    (c .before .before .before .before .before .before .before .args .at)
-    (c .before .before .before .before .before .before .before .args .to)
-    (c .before .before .before .before .before .before .before .args .left)
-    (c .before .before .before .before .before .before .before .args .last)
-    (c .before .before .before .before .before .before .before .args .tag)
-    (c .before .before .before .before .before .before .before .pre .1 .1)
-    (c .before .before .before .before .before .if1 .left)
+    sym (label-high (now (c .before .before .before .before .before .before .before .before .args .area))
+    (c .before .before .before .before .before .before .before .before .args .field .from)
+    (c .before .before .before .before .before .before .before .before .args .field .to)
+    (c .before .before .before .before .before .before .before .before .args .left)
+    (c .before .before .before .before .before .before .before .before .args .last)
+    (c .before .before .before .before .before .before .before .before .args .tag)
+    (c .before .before .before .before .before .before .before .before .pre .1 .1)
+    (c .before .before .before .before .before .before .if1 .left)
     (c .before .before .before .before .if2 .left) (c .before .before .before .label-at .result)
     (c .before .before .before .label-at .ensures)
     (let n = c .before .label-number .ensures in omega arith))
@@ -309,10 +310,10 @@ check-label-check-array-field-requires : (t : ℕ) → check-label-lts.Need-chec
   check-array-field.Post,
 ) (check-label-at t) check-label.Post
 check-label-check-array-field-requires t c κs =
-    let f = span-found (now (c .before .before .before .before .before .before .before .before .before .before .before .args .s))
-    (c .before .before .before .before .before .before .before .before .before .before .before .args .at
-    + 4) (c .before .before .before .before .before .before .before .before .before .before .before .args .to)
-    (c .before .before .before .before .before .before .before .before .before .before .before .pre .1 .1)
+    let f = span-found (now (c .before .before .before .before .before .before .before .before .before .before .before .before .args .area))
+    (c .before .before .before .before .before .before .before .before .before .before .before .before .args .field .from
+    + 4) (c .before .before .before .before .before .before .before .before .before .before .before .before .args .field .to)
+    (c .before .before .before .before .before .before .before .before .before .before .before .before .pre .1 .1)
     _ _ _ (sym (c .before .before .before .spanning-at .ensures) ∙ c .before .h .given .1) in
     search needs
 
@@ -340,14 +341,14 @@ check-label-returns-5 : (t : ℕ) → check-label-lts.Need-returns-5 (
 ) (check-label-at t) check-label.Post
 check-label-returns-5 t c =
     c .check-array-field .ensures ∙ sym
-    (label-array (now (c .before .before .before .before .before .before .before .before .before .before .before .before .args .s))
-    (c .before .before .before .before .before .before .before .before .before .before .before .before .args .at)
-    (c .before .before .before .before .before .before .before .before .before .before .before .before .args .to)
-    (c .before .before .before .before .before .before .before .before .before .before .before .before .args .left)
-    (c .before .before .before .before .before .before .before .before .before .before .before .before .args .last)
-    (c .before .before .before .before .before .before .before .before .before .before .before .before .args .tag)
-    (c .before .before .before .before .before .before .before .before .before .before .before .before .pre .1 .1)
-    (c .before .before .before .before .before .before .before .before .before .before .if1 .left)
+    (label-array (now (c .before .before .before .before .before .before .before .before .before .before .before .before .before .args .area))
+    (c .before .before .before .before .before .before .before .before .before .before .before .before .before .args .field .from)
+    (c .before .before .before .before .before .before .before .before .before .before .before .before .before .args .field .to)
+    (c .before .before .before .before .before .before .before .before .before .before .before .before .before .args .left)
+    (c .before .before .before .before .before .before .before .before .before .before .before .before .before .args .last)
+    (c .before .before .before .before .before .before .before .before .before .before .before .before .before .args .tag)
+    (c .before .before .before .before .before .before .before .before .before .before .before .before .before .pre .1 .1)
+    (c .before .before .before .before .before .before .before .before .before .before .before .if1 .left)
     (c .before .before .before .before .before .before .before .before .before .if2 .left)
     (c .before .before .before .before .before .before .before .before .label-at .result)
     (c .before .before .before .before .before .before .before .before .label-at .ensures)
@@ -367,14 +368,14 @@ check-label-returns-6 : (t : ℕ) → check-label-lts.Need-returns-6 (
   check-array-field.Post,
 ) (check-label-at t) check-label.Post
 check-label-returns-6 t c =
-    sym (label-nothing (now (c .before .before .before .before .before .before .before .before .before .before .args .s))
-    (c .before .before .before .before .before .before .before .before .before .before .args .at)
-    (c .before .before .before .before .before .before .before .before .before .before .args .to)
-    (c .before .before .before .before .before .before .before .before .before .before .args .left)
-    (c .before .before .before .before .before .before .before .before .before .before .args .last)
-    (c .before .before .before .before .before .before .before .before .before .before .args .tag)
-    (c .before .before .before .before .before .before .before .before .before .before .pre .1 .1)
-    (c .before .before .before .before .before .before .before .before .if1 .left)
+    sym (label-nothing (now (c .before .before .before .before .before .before .before .before .before .before .before .args .area))
+    (c .before .before .before .before .before .before .before .before .before .before .before .args .field .from)
+    (c .before .before .before .before .before .before .before .before .before .before .before .args .field .to)
+    (c .before .before .before .before .before .before .before .before .before .before .before .args .left)
+    (c .before .before .before .before .before .before .before .before .before .before .before .args .last)
+    (c .before .before .before .before .before .before .before .before .before .before .before .args .tag)
+    (c .before .before .before .before .before .before .before .before .before .before .before .pre .1 .1)
+    (c .before .before .before .before .before .before .before .before .before .if1 .left)
     (c .before .before .before .before .before .before .before .if2 .left)
     (c .before .before .before .before .before .before .label-at .result)
     (c .before .before .before .before .before .before .label-at .ensures)
@@ -383,11 +384,11 @@ check-label-returns-6 t c =
     (sym (c .before .before .spanning-at .ensures) ∙ c .enum-told .given .1))
 
 abbrev check-labels-Inv-loop : check-labels-lts.InvT-loop
-check-labels-Inv-loop s from end left at₀ last₀ at last =
-    (at ≤ end) × (labelsOk left last (slice at end s) ≡ labelsOk left 0 (slice from end s))
+check-labels-Inv-loop area left end at₀ last₀ at last =
+    (at ≤ end) × (labelsOk left last (slice at end area) ≡ labelsOk left 0 (slice at₀ end area))
 
 abbrev check-labels-μ-loop : check-labels-lts.MeasureT-loop
-check-labels-μ-loop s from end left at₀ last₀ at last = end - at
+check-labels-μ-loop area left end at₀ last₀ at last = end - at
 
 check-labels-loop-holds : (t : ℕ) → check-labels-lts.Need-loop-holds (
   head-at-reads.Asked,
@@ -428,9 +429,10 @@ check-labels-check-label-requires : (t : ℕ) → check-labels-lts.Need-check-la
   label-at-reads.Learnt,
 ) (check-labels-at t) check-labels.Post check-labels-Inv-loop check-labels-μ-loop
 check-labels-check-label-requires t c κs =
-    let f = (head-found (now (c .before .before .before .before .before .before .before .args .s))
+    let f = (head-found (now
+    (c .before .before .before .before .before .before .before .args .area))
     (c .before .before .before .before .before .loop .at)
-    (c .before .before .before .before .before .before .before .args .end)
+    (c .before .before .before .before .before .before .before .args .labels .to)
     (c .before .before .before .before .before .before .before .pre .1 .1) _ _ _
     (sym (c .before .before .before .head-at .ensures) ∙ c .before .h .given .1)) in search needs
 
@@ -444,9 +446,9 @@ check-labels-label-at-requires : (t : ℕ) → check-labels-lts.Need-label-at-re
 ) (check-labels-at t) check-labels.Post check-labels-Inv-loop check-labels-μ-loop
 check-labels-label-at-requires t c κs =
     let f = (head-found (now
-    (c .before .before .before .before .before .before .before .before .before .args .s))
+    (c .before .before .before .before .before .before .before .before .before .args .area))
     (c .before .before .before .before .before .before .before .loop .at)
-    (c .before .before .before .before .before .before .before .before .before .args .end)
+    (c .before .before .before .before .before .before .before .before .before .args .labels .to)
     (c .before .before .before .before .before .before .before .before .before .pre .1 .1) _ _ _
     (sym (c .before .before .before .before .before .head-at .ensures) ∙
     c .before .before .before .h .given .1)) in
@@ -454,7 +456,7 @@ check-labels-label-at-requires t c κs =
     (c .before .before .before .before .before .before .before .loop .last) _
     (c .before .before .before .before .before .before .before .loop .at)
     (c .before .before .before .h .given .0 .1 .1 .0)
-    (now (c .before .before .before .before .before .before .before .before .before .args .s))
+    (now (c .before .before .before .before .before .before .before .before .before .args .area))
     (omega arith) (sym (c .before .check-label .ensures) ∙ c .if1 .taken) in
     search needs
 
@@ -468,9 +470,9 @@ check-labels-loop-less : (t : ℕ) → check-labels-lts.Need-loop-less (
 ) (check-labels-at t) check-labels.Post check-labels-Inv-loop check-labels-μ-loop
 check-labels-loop-less t c =
     let f = (head-found (now
-    (c .before .before .before .before .before .before .before .before .before .before .args .s))
+    (c .before .before .before .before .before .before .before .before .before .before .args .area))
     (c .before .before .before .before .before .before .before .before .loop .at)
-    (c .before .before .before .before .before .before .before .before .before .before .args .end)
+    (c .before .before .before .before .before .before .before .before .before .before .args .labels .to)
     (c .before .before .before .before .before .before .before .before .before .before .pre .1 .1)
     _ _ _ (sym (c .before .before .before .before .before .before .head-at .ensures) ∙
     c .before .before .before .before .h .given .1)) in search needs
@@ -485,17 +487,17 @@ check-labels-loop-again : (t : ℕ) → check-labels-lts.Need-loop-again (
 ) (check-labels-at t) check-labels.Post check-labels-Inv-loop check-labels-μ-loop
 check-labels-loop-again t c =
     let f = (head-found (now
-    (c .before .before .before .before .before .before .before .before .before .before .args .s))
+    (c .before .before .before .before .before .before .before .before .before .before .args .area))
     (c .before .before .before .before .before .before .before .before .loop .at)
-    (c .before .before .before .before .before .before .before .before .before .before .args .end)
+    (c .before .before .before .before .before .before .before .before .before .before .args .labels .to)
     (c .before .before .before .before .before .before .before .before .before .before .pre .1 .1)
     _ _ _ (sym (c .before .before .before .before .before .before .head-at .ensures) ∙
     c .before .before .before .before .h .given .1)) in (
       f .stop,
       sym (labels-next
-          (now (c .before .before .before .before .before .before .before .before .before .before .args .s))
+          (now (c .before .before .before .before .before .before .before .before .before .before .args .area))
           (c .before .before .before .before .before .before .before .before .loop .at)
-          (c .before .before .before .before .before .before .before .before .before .before .args .end)
+          (c .before .before .before .before .before .before .before .before .before .before .args .labels .to)
           (c .before .before .before .before .before .before .before .before .before .before .pre .1 .1)
           (c .before .before .before .before .before .before .before .before .before .before .args .left)
           (c .before .before .before .before .before .before .before .before .loop .last) _ _ _
@@ -514,9 +516,9 @@ check-labels-returns : (t : ℕ) → check-labels-lts.Need-returns (
   label-at-reads.Learnt,
 ) (check-labels-at t) check-labels.Post check-labels-Inv-loop check-labels-μ-loop
 check-labels-returns t c =
-    sym (labels-bad (now (c .before .before .before .before .before .before .before .before .before .args .s))
+    sym (labels-bad (now (c .before .before .before .before .before .before .before .before .before .args .area))
     (c .before .before .before .before .before .before .before .loop .at)
-    (c .before .before .before .before .before .before .before .before .before .args .end)
+    (c .before .before .before .before .before .before .before .before .before .args .labels .to)
     (c .before .before .before .before .before .before .before .before .before .pre .1 .1)
     (c .before .before .before .before .before .before .before .before .before .args .left)
     (c .before .before .before .before .before .before .before .loop .last) _ _ _
@@ -543,9 +545,9 @@ check-labels-returns-2 : (t : ℕ) → check-labels-lts.Need-returns-2 (
   label-at-reads.Learnt,
 ) (check-labels-at t) check-labels.Post check-labels-Inv-loop check-labels-μ-loop
 check-labels-returns-2 t c =
-    sym (labels-nothing (now (c .before .before .before .before .before .before .args .s))
+    sym (labels-nothing (now (c .before .before .before .before .before .before .args .area))
     (c .before .before .before .before .loop .at)
-    (c .before .before .before .before .before .before .args .end)
+    (c .before .before .before .before .before .before .args .labels .to)
     (c .before .before .before .before .before .before .pre .1 .1)
     (c .before .before .before .before .before .before .args .left)
     (c .before .before .before .before .loop .last) (c .before .before .before .loop-test .taken)
@@ -561,8 +563,8 @@ check-labels-returns-3 : (t : ℕ) → check-labels-lts.Need-returns-3 (
   label-at-reads.Learnt,
 ) (check-labels-at t) check-labels.Post check-labels-Inv-loop check-labels-μ-loop
 check-labels-returns-3 t c =
-    sym (labels-end (now (c .before .before .before .args .s)) (c .before .loop .at)
-    (c .before .before .before .args .end) (c .before .before .before .args .left)
+    sym (labels-end (now (c .before .before .before .args .area)) (c .before .loop .at)
+    (c .before .before .before .args .labels .to) (c .before .before .before .args .left)
     (c .before .loop .last) (c .before .loop .inv .0) (c .loop-test .left)) ∙
     c .before .loop .inv .1
 
@@ -617,10 +619,12 @@ check-tree-returns-3 : (t : ℕ) → check-tree-lts.Need-returns-3 (
   check-labels.Post,
 ) (check-tree-at t) check-tree.Post
 check-tree-returns-3 t c =
-    sym (tree-large (now (c .before .before .before .before .args .s))
-    (c .before .before .before .before .args .from) (c .before .before .before .before .args .to)
-    (c .before .before .before .before .args .left) (c .before .before .before .before .args .tag)
-    (c .before .before .before .before .pre .1 .1) (c .if3 .taken))
+    sym (tree-large (now (c .before .before .before .before .before .args .area))
+    (c .before .before .before .before .before .args .content .from)
+    (c .before .before .before .before .before .args .content .to)
+    (c .before .before .before .before .before .args .left)
+    (c .before .before .before .before .before .args .tag)
+    (c .before .before .before .before .before .pre .1 .1) (c .if3 .taken))
 
 check-tree-head-at-requires : (t : ℕ) → check-tree-lts.Need-head-at-requires (
   head-at-reads.Asked,
@@ -652,10 +656,10 @@ check-tree-check-root-requires : (t : ℕ) → check-tree-lts.Need-check-root-re
 ) (check-tree-at t) check-tree.Post
 check-tree-check-root-requires t c κs =
     let f = (head-found (now
-    (c .before .before .before .before .before .before .before .before .args .s))
-    (c .before .before .before .before .before .before .before .before .args .from)
-    (c .before .before .before .before .before .before .before .before .args .to)
-    (c .before .before .before .before .before .before .before .before .pre .1 .1) _ _ _
+    (c .before .before .before .before .before .before .before .before .before .args .area))
+    (c .before .before .before .before .before .before .before .before .before .args .content .from)
+    (c .before .before .before .before .before .before .before .before .before .args .content .to)
+    (c .before .before .before .before .before .before .before .before .before .pre .1 .1) _ _ _
     (sym (c .before .before .before .head-at .ensures) ∙ c .before .h .given .1)) in search needs
 
 check-tree-sub-check-labels : (t : ℕ) → check-tree-lts.Need-sub-check-labels (
@@ -678,10 +682,10 @@ check-tree-check-labels-requires : (t : ℕ) → check-tree-lts.Need-check-label
 ) (check-tree-at t) check-tree.Post
 check-tree-check-labels-requires t c κs =
     let f = (head-found (now
-    (c .before .before .before .before .before .before .before .before .before .before .args .s))
-    (c .before .before .before .before .before .before .before .before .before .before .args .from)
-    (c .before .before .before .before .before .before .before .before .before .before .args .to)
-    (c .before .before .before .before .before .before .before .before .before .before .pre .1 .1)
+    (c .before .before .before .before .before .before .before .before .before .before .before .args .area))
+    (c .before .before .before .before .before .before .before .before .before .before .before .args .content .from)
+    (c .before .before .before .before .before .before .before .before .before .before .before .args .content .to)
+    (c .before .before .before .before .before .before .before .before .before .before .before .pre .1 .1)
     _ _ _ (sym (c .before .before .before .before .before .head-at .ensures) ∙
     c .before .before .before .h .given .1)) in search needs
 
@@ -705,15 +709,15 @@ check-tree-returns-4 : (t : ℕ) → check-tree-lts.Need-returns-4 (
 ) (check-tree-at t) check-tree.Post
 check-tree-returns-4 t c =
     c .check-labels .ensures ∙ sym
-    (tree-labels (now (c .before .before .before .before .before .before .before .before .before .before .before .args .s))
-    (c .before .before .before .before .before .before .before .before .before .before .before .args .from)
-    (c .before .before .before .before .before .before .before .before .before .before .before .args .to)
-    (c .before .before .before .before .before .before .before .before .before .before .before .args .left)
-    (c .before .before .before .before .before .before .before .before .before .before .before .args .tag)
-    (c .before .before .before .before .before .before .before .before .before .before .before .pre .1 .1)
-    (c .before .before .before .before .before .before .before .before .before .if1 .left)
-    (c .before .before .before .before .before .before .before .before .if2 .left)
-    (c .before .before .before .before .before .before .before .before .before .before .before .pre .1 .0)
+    (tree-labels (now (c .before .before .before .before .before .before .before .before .before .before .before .before .args .area))
+    (c .before .before .before .before .before .before .before .before .before .before .before .before .args .content .from)
+    (c .before .before .before .before .before .before .before .before .before .before .before .before .args .content .to)
+    (c .before .before .before .before .before .before .before .before .before .before .before .before .args .left)
+    (c .before .before .before .before .before .before .before .before .before .before .before .before .args .tag)
+    (c .before .before .before .before .before .before .before .before .before .before .before .before .pre .1 .1)
+    (c .before .before .before .before .before .before .before .before .before .before .if1 .left)
+    (c .before .before .before .before .before .before .before .before .before .if2 .left)
+    (c .before .before .before .before .before .before .before .before .before .before .before .before .pre .1 .0)
     (c .before .before .before .before .before .before .before .if3 .left) _ _ _
     (sym (c .before .before .before .before .before .before .head-at .ensures) ∙
     c .before .before .before .before .h .given .1)
@@ -728,15 +732,15 @@ check-tree-returns-5 : (t : ℕ) → check-tree-lts.Need-returns-5 (
   check-labels.Post,
 ) (check-tree-at t) check-tree.Post
 check-tree-returns-5 t c =
-    sym (tree-root (now (c .before .before .before .before .before .before .before .before .before .before .args .s))
-    (c .before .before .before .before .before .before .before .before .before .before .args .from)
-    (c .before .before .before .before .before .before .before .before .before .before .args .to)
-    (c .before .before .before .before .before .before .before .before .before .before .args .left)
-    (c .before .before .before .before .before .before .before .before .before .before .args .tag)
-    (c .before .before .before .before .before .before .before .before .before .before .pre .1 .1)
-    (c .before .before .before .before .before .before .before .before .if1 .left)
-    (c .before .before .before .before .before .before .before .if2 .left)
-    (c .before .before .before .before .before .before .before .before .before .before .pre .1 .0)
+    sym (tree-root (now (c .before .before .before .before .before .before .before .before .before .before .before .args .area))
+    (c .before .before .before .before .before .before .before .before .before .before .before .args .content .from)
+    (c .before .before .before .before .before .before .before .before .before .before .before .args .content .to)
+    (c .before .before .before .before .before .before .before .before .before .before .before .args .left)
+    (c .before .before .before .before .before .before .before .before .before .before .before .args .tag)
+    (c .before .before .before .before .before .before .before .before .before .before .before .pre .1 .1)
+    (c .before .before .before .before .before .before .before .before .before .if1 .left)
+    (c .before .before .before .before .before .before .before .before .if2 .left)
+    (c .before .before .before .before .before .before .before .before .before .before .before .pre .1 .0)
     (c .before .before .before .before .before .before .if3 .left) _ _ _
     (sym (c .before .before .before .before .before .head-at .ensures) ∙
     c .before .before .before .h .given .1) (sym (c .before .check-root .ensures) ∙ c .if4 .left))
@@ -750,24 +754,24 @@ check-tree-returns-6 : (t : ℕ) → check-tree-lts.Need-returns-6 (
   check-labels.Post,
 ) (check-tree-at t) check-tree.Post
 check-tree-returns-6 t c =
-    sym (tree-nothing (now (c .before .before .before .before .before .before .before .args .s))
-    (c .before .before .before .before .before .before .before .args .from)
-    (c .before .before .before .before .before .before .before .args .to)
-    (c .before .before .before .before .before .before .before .args .left)
-    (c .before .before .before .before .before .before .before .args .tag)
-    (c .before .before .before .before .before .before .before .pre .1 .1)
-    (c .before .before .before .before .before .if1 .left)
-    (c .before .before .before .before .if2 .left)
-    (c .before .before .before .before .before .before .before .pre .1 .0)
+    sym (tree-nothing (now (c .before .before .before .before .before .before .before .before .args .area))
+    (c .before .before .before .before .before .before .before .before .args .content .from)
+    (c .before .before .before .before .before .before .before .before .args .content .to)
+    (c .before .before .before .before .before .before .before .before .args .left)
+    (c .before .before .before .before .before .before .before .before .args .tag)
+    (c .before .before .before .before .before .before .before .before .pre .1 .1)
+    (c .before .before .before .before .before .before .if1 .left)
+    (c .before .before .before .before .before .if2 .left)
+    (c .before .before .before .before .before .before .before .before .pre .1 .0)
     (c .before .before .before .if3 .left)
     (sym (c .before .before .head-at .ensures) ∙ c .enum-told .given .1))
 
 abbrev check-trees-Inv-loop : check-trees-lts.InvT-loop
-check-trees-Inv-loop s from end left at₀ at =
-    (at ≤ end) × (treesOk left (slice at end s) ≡ treesOk left (slice from end s))
+check-trees-Inv-loop area left end at₀ at =
+    (at ≤ end) × (treesOk left (slice at end area) ≡ treesOk left (slice at₀ end area))
 
 abbrev check-trees-μ-loop : check-trees-lts.MeasureT-loop
-check-trees-μ-loop s from end left at₀ at = end - at
+check-trees-μ-loop area left end at₀ at = end - at
 
 check-trees-loop-holds : (t : ℕ) → check-trees-lts.Need-loop-holds (
   head-at-reads.Asked,
@@ -800,9 +804,10 @@ check-trees-check-tree-requires : (t : ℕ) → check-trees-lts.Need-check-tree-
   check-tree.Post,
 ) (check-trees-at t) check-trees.Post check-trees-Inv-loop check-trees-μ-loop
 check-trees-check-tree-requires t c κs =
-    let f = (head-found (now (c .before .before .before .before .before .before .before .args .s))
+    let f = (head-found (now
+    (c .before .before .before .before .before .before .before .args .area))
     (c .before .before .before .before .before .loop .at)
-    (c .before .before .before .before .before .before .before .args .end)
+    (c .before .before .before .before .before .before .before .args .trees .to)
     (c .before .before .before .before .before .before .before .pre .1 .1) _ _ _
     (sym (c .before .before .before .head-at .ensures) ∙ c .before .h .given .1)) in search needs
 
@@ -814,9 +819,9 @@ check-trees-loop-less : (t : ℕ) → check-trees-lts.Need-loop-less (
 ) (check-trees-at t) check-trees.Post check-trees-Inv-loop check-trees-μ-loop
 check-trees-loop-less t c =
     let f = (head-found (now
-    (c .before .before .before .before .before .before .before .before .before .args .s))
+    (c .before .before .before .before .before .before .before .before .before .args .area))
     (c .before .before .before .before .before .before .before .loop .at)
-    (c .before .before .before .before .before .before .before .before .before .args .end)
+    (c .before .before .before .before .before .before .before .before .before .args .trees .to)
     (c .before .before .before .before .before .before .before .before .before .pre .1 .1) _ _ _
     (sym (c .before .before .before .before .before .head-at .ensures) ∙
     c .before .before .before .h .given .1)) in search needs
@@ -829,17 +834,17 @@ check-trees-loop-again : (t : ℕ) → check-trees-lts.Need-loop-again (
 ) (check-trees-at t) check-trees.Post check-trees-Inv-loop check-trees-μ-loop
 check-trees-loop-again t c =
     let f = (head-found (now
-    (c .before .before .before .before .before .before .before .before .before .args .s))
+    (c .before .before .before .before .before .before .before .before .before .args .area))
     (c .before .before .before .before .before .before .before .loop .at)
-    (c .before .before .before .before .before .before .before .before .before .args .end)
+    (c .before .before .before .before .before .before .before .before .before .args .trees .to)
     (c .before .before .before .before .before .before .before .before .before .pre .1 .1) _ _ _
     (sym (c .before .before .before .before .before .head-at .ensures) ∙
     c .before .before .before .h .given .1)) in (
       f .stop,
       sym (trees-next
-          (now (c .before .before .before .before .before .before .before .before .before .args .s))
+          (now (c .before .before .before .before .before .before .before .before .before .args .area))
           (c .before .before .before .before .before .before .before .loop .at)
-          (c .before .before .before .before .before .before .before .before .before .args .end)
+          (c .before .before .before .before .before .before .before .before .before .args .trees .to)
           (c .before .before .before .before .before .before .before .before .before .pre .1 .1)
           (c .before .before .before .before .before .before .before .before .before .args .left) _ _ _
           (sym (c .before .before .before .before .before .head-at .ensures) ∙
@@ -854,9 +859,9 @@ check-trees-returns : (t : ℕ) → check-trees-lts.Need-returns (
   check-tree.Post,
 ) (check-trees-at t) check-trees.Post check-trees-Inv-loop check-trees-μ-loop
 check-trees-returns t c =
-    sym (trees-bad (now (c .before .before .before .before .before .before .before .before .before .args .s))
+    sym (trees-bad (now (c .before .before .before .before .before .before .before .before .before .args .area))
     (c .before .before .before .before .before .before .before .loop .at)
-    (c .before .before .before .before .before .before .before .before .before .args .end)
+    (c .before .before .before .before .before .before .before .before .before .args .trees .to)
     (c .before .before .before .before .before .before .before .before .before .pre .1 .1)
     (c .before .before .before .before .before .before .before .before .before .args .left) _ _ _
     (sym (c .before .before .before .before .before .head-at .ensures) ∙
@@ -878,9 +883,9 @@ check-trees-returns-2 : (t : ℕ) → check-trees-lts.Need-returns-2 (
   check-tree.Post,
 ) (check-trees-at t) check-trees.Post check-trees-Inv-loop check-trees-μ-loop
 check-trees-returns-2 t c =
-    sym (trees-nothing (now (c .before .before .before .before .before .before .args .s))
+    sym (trees-nothing (now (c .before .before .before .before .before .before .args .area))
     (c .before .before .before .before .loop .at)
-    (c .before .before .before .before .before .before .args .end)
+    (c .before .before .before .before .before .before .args .trees .to)
     (c .before .before .before .before .before .before .pre .1 .1)
     (c .before .before .before .before .before .before .args .left)
     (c .before .before .before .loop-test .taken)
@@ -894,8 +899,8 @@ check-trees-returns-3 : (t : ℕ) → check-trees-lts.Need-returns-3 (
   check-tree.Post,
 ) (check-trees-at t) check-trees.Post check-trees-Inv-loop check-trees-μ-loop
 check-trees-returns-3 t c =
-    sym (trees-end (now (c .before .before .before .args .s)) (c .before .loop .at)
-    (c .before .before .before .args .end) (c .before .before .before .args .left)
+    sym (trees-end (now (c .before .before .before .args .area)) (c .before .loop .at)
+    (c .before .before .before .args .trees .to) (c .before .before .before .args .left)
     (c .before .loop .inv .0) (c .loop-test .left)) ∙ c .before .loop .inv .1
 
 pub +check-array-field+check-label+check-labels+check-tree+check-trees-spec :

@@ -16,13 +16,15 @@ shared-slice-read-result c = search needs
 
 returns : tie.Need-returns
 returns c =
-    sym (root-bit (now (c .before .before .args .s)) (c .before .before .args .from)
-    (c .before .before .args .to) (c .before .before .pre .1) (c .before .if1 .taken))
+    sym (root-bit (now (c .before .before .before .args .area))
+    (c .before .before .before .args .content .from) (c .before .before .before .args .content .to)
+    (c .before .before .before .pre .1) (c .before .if1 .taken))
 
 returns-2 : tie.Need-returns-2
 returns-2 c =
-    sym (root-not-bit (now (c .before .args .s)) (c .before .args .from) (c .before .args .to)
-    (c .before .pre .1) (c .if1 .left))
+    sym (root-not-bit (now (c .before .before .args .area))
+    (c .before .before .args .content .from) (c .before .before .args .content .to)
+    (c .before .before .pre .1) (c .if1 .left))
 
 pub check-bit-spec : {M : Type 1} → statement M
 check-bit-spec = tie.close (tie.spec sub-if1 shared-slice-read-result returns returns-2)

@@ -38,14 +38,15 @@ use Rattle.format.proofs.depth.trees_within.Reads as trees-within
 use Rattle.format.proofs.depth.trees_within.Kinds as trees-within-kinds
 use Rattle.format.proofs.depth.+labels_within+trees_within.Lts-trees_within as trees-within-lts
 use Rattle.areas.proofs.area.field_end.Reads as field-end-reads
+use Rattle.format.proofs.labels.trees_at.Reads as trees-at-reads
 use Rattle.format.proofs.depth.+labels_within+trees_within.{statement}
 use Rattle.format.proofs.depth.+labels_within+trees_within.Tie.{close}
 
 abbrev μ-labels-within : Measures 1 labels-within-kinds.ps ℕ
-μ-labels-within κs a = 2 * a .1 .1 .1 .0 + 1
+μ-labels-within κs a = 2 * a .1 .1 .0 + 1
 
 abbrev μ-trees-within : Measures 1 trees-within-kinds.ps ℕ
-μ-trees-within κs a = 2 * a .1 .1 .1 .0
+μ-trees-within κs a = 2 * a .1 .1 .0
 
 abbrev labels-within-at : ℕ → In 1 labels-within-kinds.ps
 labels-within-at t =
@@ -72,17 +73,19 @@ trees-within-below t =
     trees-within.Pre
 
 abbrev labels-within-Inv-loop : labels-within-lts.InvT-loop
-labels-within-Inv-loop s p e left i₀ i =
-    Holds labelsBytes s i e
-    × ((r : Bool) → Says labelsBytes (λ ls. leb (depthL ls) left) s i e r → Says labelsBytes
-    (λ ls. leb (depthL ls) left) s p e r)
+labels-within-Inv-loop area left end at₀ at =
+    Holds labelsBytes area at end
+    × ((r : Bool) → Says labelsBytes (λ ls. leb (depthL ls) left) area at end r → Says labelsBytes
+    (λ ls. leb (depthL ls) left) area at₀ end r)
 
 abbrev labels-within-μ-loop : labels-within-lts.MeasureT-loop
-labels-within-μ-loop s p e left i₀ i = e - i
+labels-within-μ-loop area left end at₀ at = end - at
 
 labels-within-loop-holds : (t : ℕ) → labels-within-lts.Need-loop-holds (
   field-end-reads.Asked,
   field-end-reads.Learnt,
+  trees-at-reads.Asked,
+  trees-at-reads.Learnt,
   trees-within-below t,
   trees-within.Post,
 ) (labels-within-at t) labels-within.Post labels-within-Inv-loop labels-within-μ-loop
@@ -91,19 +94,23 @@ labels-within-loop-holds t c = (c .before .pre .1, λ r h. h)
 labels-within-field-end-requires : (t : ℕ) → labels-within-lts.Need-field-end-requires (
   field-end-reads.Asked,
   field-end-reads.Learnt,
+  trees-at-reads.Asked,
+  trees-at-reads.Learnt,
   trees-within-below t,
   trees-within.Post,
 ) (labels-within-at t) labels-within.Post labels-within-Inv-loop labels-within-μ-loop
 labels-within-field-end-requires t c κs =
     omega (arith, labels-places (c .before .loop .inv .0) (c .loop-test .taken) refl)
 
-labels-within-add-trees-within : (t : ℕ) → labels-within-lts.Need-add-trees-within (
+labels-within-trees-at-requires : (t : ℕ) → labels-within-lts.Need-trees-at-requires (
   field-end-reads.Asked,
   field-end-reads.Learnt,
+  trees-at-reads.Asked,
+  trees-at-reads.Learnt,
   trees-within-below t,
   trees-within.Post,
 ) (labels-within-at t) labels-within.Post labels-within-Inv-loop labels-within-μ-loop
-labels-within-add-trees-within t c =
+labels-within-trees-at-requires t c κs =
     omega (
       arith,
       labels-places (c .before .before .loop .inv .0) (c .before .loop-test .taken)
@@ -113,83 +120,101 @@ labels-within-add-trees-within t c =
 labels-within-trees-within-requires : (t : ℕ) → labels-within-lts.Need-trees-within-requires (
   field-end-reads.Asked,
   field-end-reads.Learnt,
+  trees-at-reads.Asked,
+  trees-at-reads.Learnt,
   trees-within-below t,
   trees-within.Post,
 ) (labels-within-at t) labels-within.Post labels-within-Inv-loop labels-within-μ-loop
 labels-within-trees-within-requires t c κs = (
-  omega (arith, c .before .before .before .before .pre .0),
+  omega (arith, c .before .before .before .before .before .pre .0),
   holds-array
-      (c .before .before .loop .inv .0) (c .before .loop-test .taken) (c .field-end .ensures),
+      (c .before .before .before .loop .inv .0) (c .before .before .loop-test .taken)
+      (c .before .field-end .ensures) (c .trees-at .ensures),
 )
 
 labels-within-returns : (t : ℕ) → labels-within-lts.Need-returns (
   field-end-reads.Asked,
   field-end-reads.Learnt,
+  trees-at-reads.Asked,
+  trees-at-reads.Learnt,
   trees-within-below t,
   trees-within.Post,
 ) (labels-within-at t) labels-within.Post labels-within-Inv-loop labels-within-μ-loop
 labels-within-returns t c =
-    c .before .before .before .before .loop .inv .1 _
-    (labels-deep (c .before .before .before .before .before .before .args .s .now)
-    (c .before .before .before .before .before .before .args .left)
-    (c .before .before .before .before .loop .i)
-    (c .before .before .before .before .before .before .args .e)
-    (c .before .before .field-end .result) (c .before .before .before .loop-test .taken)
-    (c .before .before .field-end .ensures) (c .before .trees-within .result)
+    c .before .before .before .before .before .loop .inv .1 _
+    (labels-deep (c .before .before .before .before .before .before .before .args .area .now)
+    (c .before .before .before .before .before .before .before .args .left)
+    (c .before .before .before .before .before .loop .at)
+    (c .before .before .before .before .before .before .before .args .labels .to)
+    (c .before .before .before .field-end .result)
+    (c .before .before .before .before .loop-test .taken)
+    (c .before .before .before .field-end .ensures) (c .before .before .trees-at .result)
+    (c .before .before .trees-at .ensures) (c .before .trees-within .result)
     (c .before .trees-within .ensures) (not-true _ (c .if1 .taken)))
 
 labels-within-loop-less : (t : ℕ) → labels-within-lts.Need-loop-less (
   field-end-reads.Asked,
   field-end-reads.Learnt,
+  trees-at-reads.Asked,
+  trees-at-reads.Learnt,
   trees-within-below t,
   trees-within.Post,
 ) (labels-within-at t) labels-within.Post labels-within-Inv-loop labels-within-μ-loop
 labels-within-loop-less t c =
     omega (
       arith,
-      labels-places (c .before .before .before .before .loop .inv .0)
-          (c .before .before .before .loop-test .taken) (c .before .before .field-end .ensures),
+      labels-places (c .before .before .before .before .before .loop .inv .0)
+          (c .before .before .before .before .loop-test .taken)
+          (c .before .before .before .field-end .ensures),
     )
 
 labels-within-loop-again : (t : ℕ) → labels-within-lts.Need-loop-again (
   field-end-reads.Asked,
   field-end-reads.Learnt,
+  trees-at-reads.Asked,
+  trees-at-reads.Learnt,
   trees-within-below t,
   trees-within.Post,
 ) (labels-within-at t) labels-within.Post labels-within-Inv-loop labels-within-μ-loop
 labels-within-loop-again t c = (
-  holds-others (c .before .before .before .before .loop .inv .0)
-      (c .before .before .before .loop-test .taken) (c .before .before .field-end .ensures),
+  holds-others (c .before .before .before .before .before .loop .inv .0)
+      (c .before .before .before .before .loop-test .taken)
+      (c .before .before .before .field-end .ensures),
   λ r h.
-      c .before .before .before .before .loop .inv .1 r
-      (labels-next (c .before .before .before .before .before .before .args .s .now)
-      (c .before .before .before .before .before .before .args .left)
-      (c .before .before .before .before .loop .i)
-      (c .before .before .before .before .before .before .args .e)
-      (c .before .before .field-end .result) (c .before .before .before .loop-test .taken)
-      (c .before .before .field-end .ensures) (c .before .trees-within .result)
+      c .before .before .before .before .before .loop .inv .1 r
+      (labels-next (c .before .before .before .before .before .before .before .args .area .now)
+      (c .before .before .before .before .before .before .before .args .left)
+      (c .before .before .before .before .before .loop .at)
+      (c .before .before .before .before .before .before .before .args .labels .to)
+      (c .before .before .before .field-end .result)
+      (c .before .before .before .before .loop-test .taken)
+      (c .before .before .before .field-end .ensures) (c .before .before .trees-at .result)
+      (c .before .before .trees-at .ensures) (c .before .trees-within .result)
       (c .before .trees-within .ensures) (not-false _ (c .if1 .left)) r h),
 )
 
 labels-within-returns-2 : (t : ℕ) → labels-within-lts.Need-returns-2 (
   field-end-reads.Asked,
   field-end-reads.Learnt,
+  trees-at-reads.Asked,
+  trees-at-reads.Learnt,
   trees-within-below t,
   trees-within.Post,
 ) (labels-within-at t) labels-within.Post labels-within-Inv-loop labels-within-μ-loop
 labels-within-returns-2 t c =
     c .before .loop .inv .1 _
-    (labels-end (c .before .before .before .args .s .now) (c .before .before .before .args .left)
-    (c .before .loop .i) (c .before .before .before .args .e) (c .loop-test .left))
+    (labels-end (c .before .before .before .args .area .now)
+    (c .before .before .before .args .left) (c .before .loop .at)
+    (c .before .before .before .args .labels .to) (c .loop-test .left))
 
 abbrev trees-within-Inv-loop : trees-within-lts.InvT-loop
-trees-within-Inv-loop s p e left i₀ i =
-    Holds treesBytes s i e
-    × ((r : Bool) → Says treesBytes (λ ts. leb (depthA ts) left) s i e r → Says treesBytes
-    (λ ts. leb (depthA ts) left) s p e r)
+trees-within-Inv-loop area left end at₀ at =
+    Holds treesBytes area at end
+    × ((r : Bool) → Says treesBytes (λ ts. leb (depthA ts) left) area at end r → Says treesBytes
+    (λ ts. leb (depthA ts) left) area at₀ end r)
 
 abbrev trees-within-μ-loop : trees-within-lts.MeasureT-loop
-trees-within-μ-loop s p e left i₀ i = e - i
+trees-within-μ-loop area left end at₀ at = end - at
 
 trees-within-returns : (t : ℕ) → trees-within-lts.Need-returns (
   field-end-reads.Asked,
@@ -198,8 +223,8 @@ trees-within-returns : (t : ℕ) → trees-within-lts.Need-returns (
   labels-within.Post,
 ) (trees-within-at t) trees-within.Post trees-within-Inv-loop trees-within-μ-loop
 trees-within-returns t c =
-    no-level (c .before .before .args .s .now) (c .before .before .args .left)
-    (c .before .before .args .p) (c .before .before .args .e) (c .if1 .taken)
+    no-level (c .before .before .args .area .now) (c .before .before .args .left)
+    (c .before .before .args .trees .from) (c .before .before .args .trees .to) (c .if1 .taken)
 
 trees-within-sub-if2 : (t : ℕ) → trees-within-lts.Need-sub-if2 (
   field-end-reads.Asked,
@@ -234,9 +259,9 @@ trees-within-returns-2 : (t : ℕ) → trees-within-lts.Need-returns-2 (
   labels-within.Post,
 ) (trees-within-at t) trees-within.Post trees-within-Inv-loop trees-within-μ-loop
 trees-within-returns-2 t c =
-    trees-short (c .before .before .before .args .s .now) (c .before .before .before .args .left)
-    (c .before .before .before .args .p) (c .before .before .before .args .e)
-    (omega (arith, c .if2 .taken))
+    trees-short (c .before .before .before .args .area .now)
+    (c .before .before .before .args .left) (c .before .before .before .args .trees .from)
+    (c .before .before .before .args .trees .to) (omega (arith, c .if2 .taken))
 
 trees-within-loop-holds : (t : ℕ) → trees-within-lts.Need-loop-holds (
   field-end-reads.Asked,
@@ -311,10 +336,10 @@ trees-within-returns-3 : (t : ℕ) → trees-within-lts.Need-returns-3 (
 ) (trees-within-at t) trees-within.Post trees-within-Inv-loop trees-within-μ-loop
 trees-within-returns-3 t c =
     c .before .before .before .before .before .loop .inv .1 _
-    (trees-deep (c .before .before .before .before .before .before .before .before .before .args .s .now)
+    (trees-deep (c .before .before .before .before .before .before .before .before .before .args .area .now)
     (c .before .before .before .before .before .before .before .before .before .args .left)
-    (c .before .before .before .before .before .loop .i)
-    (c .before .before .before .before .before .before .before .before .before .args .e)
+    (c .before .before .before .before .before .loop .at)
+    (c .before .before .before .before .before .before .before .before .before .args .trees .to)
     (c .before .before .before .field-end .result)
     (c .before .before .before .before .loop-test .taken)
     (c .before .before .before .field-end .ensures) (c .before .before .field-end2 .result)
@@ -349,10 +374,10 @@ trees-within-loop-again t c = (
       (c .before .before .before .field-end .ensures),
   λ r h.
       c .before .before .before .before .before .loop .inv .1 r
-      (trees-next (c .before .before .before .before .before .before .before .before .before .args .s .now)
+      (trees-next (c .before .before .before .before .before .before .before .before .before .args .area .now)
       (c .before .before .before .before .before .before .before .before .before .args .left)
-      (c .before .before .before .before .before .loop .i)
-      (c .before .before .before .before .before .before .before .before .before .args .e)
+      (c .before .before .before .before .before .loop .at)
+      (c .before .before .before .before .before .before .before .before .before .args .trees .to)
       (c .before .before .before .field-end .result)
       (c .before .before .before .before .loop-test .taken)
       (c .before .before .before .field-end .ensures) (c .before .before .field-end2 .result)
@@ -370,15 +395,17 @@ trees-within-returns-4 : (t : ℕ) → trees-within-lts.Need-returns-4 (
 ) (trees-within-at t) trees-within.Post trees-within-Inv-loop trees-within-μ-loop
 trees-within-returns-4 t c =
     c .before .loop .inv .1 _
-    (trees-end (c .before .before .before .before .before .args .s .now)
-    (c .before .before .before .before .before .args .left) (c .before .loop .i)
-    (c .before .before .before .before .before .args .e) (c .loop-test .left))
+    (trees-end (c .before .before .before .before .before .args .area .now)
+    (c .before .before .before .before .before .args .left) (c .before .loop .at)
+    (c .before .before .before .before .before .args .trees .to) (c .loop-test .left))
 
 pub +labels-within+trees-within-spec : {M : Type 1} → statement M
 +labels-within+trees-within-spec =
     close μ-labels-within μ-trees-within (λ t. labels-within-lts.spec (
       field-end-reads.Asked,
       field-end-reads.Learnt,
+      trees-at-reads.Asked,
+      trees-at-reads.Learnt,
       trees-within-below t,
       trees-within.Post,
     )
@@ -388,7 +415,7 @@ pub +labels-within+trees-within-spec : {M : Type 1} → statement M
     labels-within-μ-loop
     (labels-within-loop-holds t)
     (labels-within-field-end-requires t)
-    (labels-within-add-trees-within t)
+    (labels-within-trees-at-requires t)
     (labels-within-trees-within-requires t)
     (labels-within-returns t)
     (labels-within-loop-less t)

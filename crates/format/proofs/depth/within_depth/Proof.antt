@@ -9,15 +9,18 @@ use Rattle.format.proofs.depth.within_depth.Lts as lts
 use Rattle.format.proofs.depth.trees_within.Reads as trees-within-reads
 
 sub-if1 : tie.Need-sub-if1
-sub-if1 c = omega (arith, c .before .pre .value-is .ends, c .before .pre .value-is .inside)
+sub-if1 c =
+    omega (arith, c .before .before .pre .value-is .ends, c .before .before .pre .value-is .inside)
 
 add-if1 : tie.Need-add-if1
-add-if1 c = omega (arith, c .before .pre .value-is .ends, c .before .pre .value-is .inside)
+add-if1 c =
+    omega (arith, c .before .before .pre .value-is .ends, c .before .before .pre .value-is .inside)
 
 returns : tie.Need-returns
 returns c =
-    trees-short (c .before .before .args .s .now) (c .before .before .args .left)
-    (c .before .before .args .p) (c .before .before .args .e) (omega (arith, c .if1 .taken))
+    trees-short (c .before .before .before .args .area .now)
+    (c .before .before .before .args .left) (c .before .before .before .args .trees .from)
+    (c .before .before .before .args .trees .to) (omega (arith, c .if1 .taken))
 
 trees-within-requires : tie.Need-trees-within-requires
 trees-within-requires c κs = search needs

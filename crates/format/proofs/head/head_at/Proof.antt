@@ -15,7 +15,7 @@ sub-if1 c = search needs
 
 returns : tie.Need-returns
 returns c =
-    sym (head-short (now (c .before .before .args .s)) (c .before .before .args .at)
+    sym (head-short (now (c .before .before .args .area)) (c .before .before .args .at)
     (c .before .before .args .end) (c .before .before .pre .1) (c .if1 .taken))
 
 len-at-requires : tie.Need-len-at-requires
@@ -29,7 +29,7 @@ sub-if2 c = search needs
 
 returns-2 : tie.Need-returns-2
 returns-2 c =
-    sym (head-over (now (c .before .before .before .before .args .s))
+    sym (head-over (now (c .before .before .before .before .args .area))
     (c .before .before .before .before .args .at) (c .before .before .before .before .args .end)
     (c .before .before .before .before .pre .1) (c .before .len-at .result) (omega arith)
     (c .before .len-at .ensures .0) (c .if2 .taken))
@@ -42,7 +42,7 @@ add-t6 c = search needs
 
 returns-3 : tie.Need-returns-3
 returns-3 c =
-    sym (head-field (now (c .before .before .before .before .before .args .s))
+    sym (head-field (now (c .before .before .before .before .before .args .area))
     (c .before .before .before .before .before .args .at)
     (c .before .before .before .before .before .args .end)
     (c .before .before .before .before .before .pre .1) (c .before .before .len-at .result)

@@ -20,7 +20,7 @@ enum-told c = search needs
 
 returns : tie.Need-returns
 returns c =
-    sym (span-field (now (c .before .before .before .before .before .before .args .s))
+    sym (span-field (now (c .before .before .before .before .before .before .args .area))
     (c .before .before .before .before .before .before .args .at)
     (c .before .before .before .before .before .before .args .end) _ _ _
     (sym (c .before .before .before .before .head-at .ensures) ∙ c .before .before .h .given .1)
@@ -28,7 +28,7 @@ returns c =
 
 returns-2 : tie.Need-returns-2
 returns-2 c =
-    sym (span-trailing (now (c .before .before .before .before .before .before .args .s))
+    sym (span-trailing (now (c .before .before .before .before .before .before .args .area))
     (c .before .before .before .before .before .before .args .at)
     (c .before .before .before .before .before .before .args .end) _ _ _
     (sym (c .before .before .before .before .head-at .ensures) ∙ c .before .before .h .given .1)
@@ -36,7 +36,7 @@ returns-2 c =
 
 returns-3 : tie.Need-returns-3
 returns-3 c =
-    sym (span-nothing (now (c .before .before .before .before .args .s))
+    sym (span-nothing (now (c .before .before .before .before .args .area))
     (c .before .before .before .before .args .at) (c .before .before .before .before .args .end)
     (sym (c .before .before .head-at .ensures) ∙ c .enum-told .given .1))
 

@@ -17,8 +17,8 @@ view-head-requires c κs = search needs
 returns : tie.Need-returns
 returns c =
     c .view-head .ensures ∙ simp
-    (le-leb (length (now (c .before .before .args .s))) (length (now (c .before .before .args .s)))
-    (omega arith))
+    (le-leb (length (now (c .before .before .args .area)))
+    (length (now (c .before .before .args .area))) (omega arith))
 
 pub spanning-spec : {M : Type 1} → statement M
 spanning-spec = tie.close (tie.spec view-head-requires returns)

@@ -8,6 +8,7 @@ use lib.ListN.{length}
 use Rattle.areas.specs.declared.area.Out.{Out}
 use Rattle.spec_queries.specs.Bytes.{pairF}
 use Rattle.queries.specs.PartLaws.{holds-of, list-places}
+use Rattle.areas.specs.Area.{span}
 use Rattle.group.specs.Grow.{onePart, aggregateValue, ClassAt, PairsReady, PairsGrow}
 use Rattle.group.specs.GrowLaws.{pairs-done, pairs-first, pairs-stop, pairs-rest, pairs-next}
 use Rattle.group.specs.PairLaws.{class-keep}
@@ -19,13 +20,16 @@ use Rattle.areas.proofs.area.field_end.Reads as field-end-reads
 use Rattle.group.proofs.class.add_aggregate.Reads as add-aggregate-reads
 
 abbrev Inv-loop : tie.InvT-loop
-Inv-loop w₀ q g ge p e x xe b s se at₀ end₀ w at end =
-    PairsReady (ClassAt q g ge x xe b s) w q at e s end × (length w ≡ length w₀)
-    × ((u : List ℕ) (r : Out) → PairsGrow (ClassAt q g ge x xe b s) (onePart aggregateValue) w u q
-    at e s end r → PairsGrow (ClassAt q g ge x xe b s) (onePart aggregateValue) w₀ u q p e s se r)
+Inv-loop work₀ query keys first end last base at₀ to₀ work at to =
+    PairsReady (ClassAt query keys first end base) work query (span at last) (span base to) ×
+    (length work ≡ length work₀)
+    × ((u : List ℕ) (r : Out) → PairsGrow (ClassAt query keys first end base)
+    (onePart aggregateValue) work u query (span at last) (span base to) r → PairsGrow
+    (ClassAt query keys first end base) (onePart aggregateValue) work₀ u query (span at₀ last)
+    (span base to₀) r)
 
 abbrev μ-loop : tie.MeasureT-loop
-μ-loop w₀ q g ge p e x xe b s se at₀ end₀ w at end = e - at
+μ-loop work₀ query keys first end last base at₀ to₀ work at to = last - at
 
 loop-holds : tie.Need-loop-holds Inv-loop μ-loop
 loop-holds c = (c .before .before .pre, refl, λ u r h. h)
@@ -40,19 +44,17 @@ field-end-requires c κs =
 
 add-aggregate-requires : tie.Need-add-aggregate-requires Inv-loop μ-loop
 add-aggregate-requires c κs =
-    pairs-first (ClassAt (c .before .before .before .before .before .before .args .q .now)
-    (c .before .before .before .before .before .before .args .g)
-    (c .before .before .before .before .before .before .args .ge)
-    (c .before .before .before .before .before .before .args .x)
-    (c .before .before .before .before .before .before .args .xe)
-    (c .before .before .before .before .before .before .args .b)
-    (c .before .before .before .before .before .before .args .s)) (onePart aggregateValue)
-    (c .before .before .before .before .before .before .args .q .now)
+    pairs-first (ClassAt (c .before .before .before .before .before .before .args .query .now)
+    (c .before .before .before .before .before .before .args .keys)
+    (c .before .before .before .before .before .before .args .first)
+    (c .before .before .before .before .before .before .args .end)
+    (c .before .before .before .before .before .before .args .built .from))
+    (onePart aggregateValue) (c .before .before .before .before .before .before .args .query .now)
     (c .before .before .before .loop .at)
-    (c .before .before .before .before .before .before .args .e)
-    (c .before .before .before .loop .w)
-    (c .before .before .before .before .before .before .args .s)
-    (c .before .before .before .loop .end) (c .before .before .loop-test .taken)
+    (c .before .before .before .before .before .before .args .aggregates .to)
+    (c .before .before .before .loop .work)
+    (c .before .before .before .before .before .before .args .built .from)
+    (c .before .before .before .loop .to) (c .before .before .loop-test .taken)
     (c .before .field-end .ensures) (c .before .before .before .loop .inv .0)
 
 enum-known-r : tie.Need-enum-known-r Inv-loop μ-loop
@@ -68,20 +70,18 @@ returns : tie.Need-returns Inv-loop μ-loop
 returns c =
     c .before .before .before .before .before .before .before .before .loop .inv .2
     (c .before .before .before .before .add-aggregate .last .0) Out.TooLarge
-    (pairs-stop (ClassAt (c .before .before .before .before .before .before .before .before .before .before .before .args .q .now)
-    (c .before .before .before .before .before .before .before .before .before .before .before .args .g)
-    (c .before .before .before .before .before .before .before .before .before .before .before .args .ge)
-    (c .before .before .before .before .before .before .before .before .before .before .before .args .x)
-    (c .before .before .before .before .before .before .before .before .before .before .before .args .xe)
-    (c .before .before .before .before .before .before .before .before .before .before .before .args .b)
-    (c .before .before .before .before .before .before .before .before .before .before .before .args .s))
+    (pairs-stop (ClassAt (c .before .before .before .before .before .before .before .before .before .before .before .args .query .now)
+    (c .before .before .before .before .before .before .before .before .before .before .before .args .keys)
+    (c .before .before .before .before .before .before .before .before .before .before .before .args .first)
+    (c .before .before .before .before .before .before .before .before .before .before .before .args .end)
+    (c .before .before .before .before .before .before .before .before .before .before .before .args .built .from))
     (onePart aggregateValue)
-    (c .before .before .before .before .before .before .before .before .before .before .before .args .q .now)
+    (c .before .before .before .before .before .before .before .before .before .before .before .args .query .now)
     (c .before .before .before .before .before .before .before .before .loop .at)
-    (c .before .before .before .before .before .before .before .before .before .before .before .args .e)
-    (c .before .before .before .before .before .before .before .before .loop .w)
-    (c .before .before .before .before .before .before .before .before .before .before .before .args .s)
-    (c .before .before .before .before .before .before .before .before .loop .end)
+    (c .before .before .before .before .before .before .before .before .before .before .before .args .aggregates .to)
+    (c .before .before .before .before .before .before .before .before .loop .work)
+    (c .before .before .before .before .before .before .before .before .before .before .before .args .built .from)
+    (c .before .before .before .before .before .before .before .before .loop .to)
     (c .before .before .before .before .before .before .before .loop-test .taken)
     (c .before .before .before .before .before .before .field-end .ensures)
     (c .before .before .before .before .add-aggregate .ensures) (c .enum-told .given .1))
@@ -98,20 +98,18 @@ loop-less c =
 
 loop-again : tie.Need-loop-again Inv-loop μ-loop
 loop-again c = (
-  pairs-rest (ClassAt (c .before .before .before .before .before .before .before .before .before .before .before .before .args .q .now)
-      (c .before .before .before .before .before .before .before .before .before .before .before .before .args .g)
-      (c .before .before .before .before .before .before .before .before .before .before .before .before .args .ge)
-      (c .before .before .before .before .before .before .before .before .before .before .before .before .args .x)
-      (c .before .before .before .before .before .before .before .before .before .before .before .before .args .xe)
-      (c .before .before .before .before .before .before .before .before .before .before .before .before .args .b)
-      (c .before .before .before .before .before .before .before .before .before .before .before .before .args .s))
+  pairs-rest (ClassAt (c .before .before .before .before .before .before .before .before .before .before .before .before .args .query .now)
+      (c .before .before .before .before .before .before .before .before .before .before .before .before .args .keys)
+      (c .before .before .before .before .before .before .before .before .before .before .before .before .args .first)
+      (c .before .before .before .before .before .before .before .before .before .before .before .before .args .end)
+      (c .before .before .before .before .before .before .before .before .before .before .before .before .args .built .from))
       (onePart aggregateValue)
-      (c .before .before .before .before .before .before .before .before .before .before .before .before .args .q .now)
+      (c .before .before .before .before .before .before .before .before .before .before .before .before .args .query .now)
       (c .before .before .before .before .before .before .before .before .before .loop .at)
-      (c .before .before .before .before .before .before .before .before .before .before .before .before .args .e)
-      (c .before .before .before .before .before .before .before .before .before .loop .w)
-      (c .before .before .before .before .before .before .before .before .before .before .before .before .args .s)
-      (c .before .before .before .before .before .before .before .before .before .loop .end)
+      (c .before .before .before .before .before .before .before .before .before .before .before .before .args .aggregates .to)
+      (c .before .before .before .before .before .before .before .before .before .loop .work)
+      (c .before .before .before .before .before .before .before .before .before .before .before .before .args .built .from)
+      (c .before .before .before .before .before .before .before .before .before .loop .to)
       (c .before .before .before .before .before .before .before .before .loop-test .taken)
       (c .before .before .before .before .before .before .before .field-end .ensures)
       (c .before .before .before .before .before .add-aggregate .ensures) class-keep
@@ -122,20 +120,18 @@ loop-again c = (
       c .before .before .before .before .before .before .before .before .before .loop .inv .1,
   λ u r h. c .before .before .before .before .before .before .before .before .before .loop .inv .2
       u r (pairs-next (ClassAt
-      (c .before .before .before .before .before .before .before .before .before .before .before .before .args .q .now)
-      (c .before .before .before .before .before .before .before .before .before .before .before .before .args .g)
-      (c .before .before .before .before .before .before .before .before .before .before .before .before .args .ge)
-      (c .before .before .before .before .before .before .before .before .before .before .before .before .args .x)
-      (c .before .before .before .before .before .before .before .before .before .before .before .before .args .xe)
-      (c .before .before .before .before .before .before .before .before .before .before .before .before .args .b)
-      (c .before .before .before .before .before .before .before .before .before .before .before .before .args .s))
+      (c .before .before .before .before .before .before .before .before .before .before .before .before .args .query .now)
+      (c .before .before .before .before .before .before .before .before .before .before .before .before .args .keys)
+      (c .before .before .before .before .before .before .before .before .before .before .before .before .args .first)
+      (c .before .before .before .before .before .before .before .before .before .before .before .before .args .end)
+      (c .before .before .before .before .before .before .before .before .before .before .before .before .args .built .from))
       (onePart aggregateValue)
-      (c .before .before .before .before .before .before .before .before .before .before .before .before .args .q .now)
+      (c .before .before .before .before .before .before .before .before .before .before .before .before .args .query .now)
       (c .before .before .before .before .before .before .before .before .before .loop .at)
-      (c .before .before .before .before .before .before .before .before .before .before .before .before .args .e)
-      (c .before .before .before .before .before .before .before .before .before .loop .w)
-      (c .before .before .before .before .before .before .before .before .before .before .before .before .args .s)
-      (c .before .before .before .before .before .before .before .before .before .loop .end)
+      (c .before .before .before .before .before .before .before .before .before .before .before .before .args .aggregates .to)
+      (c .before .before .before .before .before .before .before .before .before .loop .work)
+      (c .before .before .before .before .before .before .before .before .before .before .before .before .args .built .from)
+      (c .before .before .before .before .before .before .before .before .before .loop .to)
       (c .before .before .before .before .before .before .before .before .loop-test .taken)
       (c .before .before .before .before .before .before .before .field-end .ensures)
       (c .before .before .before .before .before .add-aggregate .ensures) class-keep
@@ -147,15 +143,15 @@ same-length-2 c = search needs
 
 returns-2 : tie.Need-returns-2 Inv-loop μ-loop
 returns-2 c =
-    c .before .loop .inv .2 (c .before .loop .w) (Out.At (c .before .loop .end))
-    (pairs-done (ClassAt (c .before .before .before .before .args .q .now)
-    (c .before .before .before .before .args .g) (c .before .before .before .before .args .ge)
-    (c .before .before .before .before .args .x) (c .before .before .before .before .args .xe)
-    (c .before .before .before .before .args .b) (c .before .before .before .before .args .s))
-    (onePart aggregateValue) (c .before .before .before .before .args .q .now)
-    (c .before .loop .at) (c .before .before .before .before .args .e) (c .before .loop .w)
-    (c .before .before .before .before .args .s) (c .before .loop .end) (c .loop-test .left)
-    ((c .before .loop .inv .0) .within))
+    c .before .loop .inv .2 (c .before .loop .work) (Out.At (c .before .loop .to))
+    (pairs-done (ClassAt (c .before .before .before .before .args .query .now)
+    (c .before .before .before .before .args .keys)
+    (c .before .before .before .before .args .first) (c .before .before .before .before .args .end)
+    (c .before .before .before .before .args .built .from)) (onePart aggregateValue)
+    (c .before .before .before .before .args .query .now) (c .before .loop .at)
+    (c .before .before .before .before .args .aggregates .to) (c .before .loop .work)
+    (c .before .before .before .before .args .built .from) (c .before .loop .to)
+    (c .loop-test .left) ((c .before .loop .inv .0) .within))
 
 pub add-aggregates-spec : {M : Type 1} → statement M
 add-aggregates-spec =

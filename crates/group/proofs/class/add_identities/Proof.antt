@@ -8,6 +8,7 @@ use lib.ListN.{length}
 use Rattle.areas.specs.declared.area.Out.{Out}
 use Rattle.spec_queries.specs.Bytes.{pairF}
 use Rattle.queries.specs.PartLaws.{holds-of, list-places}
+use Rattle.areas.specs.Area.{span}
 use Rattle.group.specs.Grow.{sourcedPart, FirstAt, PairsReady, PairsGrow}
 use Rattle.group.specs.GrowLaws.{pairs-done, pairs-first, pairs-stop, pairs-rest, pairs-next}
 use Rattle.group.specs.PairLaws.{first-keep}
@@ -19,13 +20,15 @@ use Rattle.areas.proofs.area.field_end.Reads as field-end-reads
 use Rattle.group.proofs.class.add_sourced.Reads as add-sourced-reads
 
 abbrev Inv-loop : tie.InvT-loop
-Inv-loop w₀ q p e x xe s se at₀ end₀ w at end =
-    PairsReady (FirstAt x xe s) w q at e s end × (length w ≡ length w₀)
-    × ((u : List ℕ) (r : Out) → PairsGrow (FirstAt x xe s) (sourcedPart) w u q at e s end r →
-    PairsGrow (FirstAt x xe s) (sourcedPart) w₀ u q p e s se r)
+Inv-loop work₀ query first last base at₀ to₀ work at to =
+    PairsReady (FirstAt first base) work query (span at last) (span base to) ×
+    (length work ≡ length work₀)
+    × ((u : List ℕ) (r : Out) → PairsGrow (FirstAt first base) sourcedPart work u query
+    (span at last) (span base to) r → PairsGrow (FirstAt first base) sourcedPart work₀ u query
+    (span at₀ last) (span base to₀) r)
 
 abbrev μ-loop : tie.MeasureT-loop
-μ-loop w₀ q p e x xe s se at₀ end₀ w at end = e - at
+μ-loop work₀ query first last base at₀ to₀ work at to = last - at
 
 loop-holds : tie.Need-loop-holds Inv-loop μ-loop
 loop-holds c = (c .before .before .pre, refl, λ u r h. h)
@@ -40,15 +43,14 @@ field-end-requires c κs =
 
 add-sourced-requires : tie.Need-add-sourced-requires Inv-loop μ-loop
 add-sourced-requires c κs =
-    pairs-first (FirstAt (c .before .before .before .before .before .before .args .x)
-    (c .before .before .before .before .before .before .args .xe)
-    (c .before .before .before .before .before .before .args .s)) (sourcedPart)
-    (c .before .before .before .before .before .before .args .q .now)
+    pairs-first (FirstAt (c .before .before .before .before .before .before .args .first)
+    (c .before .before .before .before .before .before .args .built .from)) sourcedPart
+    (c .before .before .before .before .before .before .args .query .now)
     (c .before .before .before .loop .at)
-    (c .before .before .before .before .before .before .args .e)
-    (c .before .before .before .loop .w)
-    (c .before .before .before .before .before .before .args .s)
-    (c .before .before .before .loop .end) (c .before .before .loop-test .taken)
+    (c .before .before .before .before .before .before .args .keys .to)
+    (c .before .before .before .loop .work)
+    (c .before .before .before .before .before .before .args .built .from)
+    (c .before .before .before .loop .to) (c .before .before .loop-test .taken)
     (c .before .field-end .ensures) (c .before .before .before .loop .inv .0)
 
 enum-known-r : tie.Need-enum-known-r Inv-loop μ-loop
@@ -64,15 +66,14 @@ returns : tie.Need-returns Inv-loop μ-loop
 returns c =
     c .before .before .before .before .before .before .before .before .loop .inv .2
     (c .before .before .before .before .add-sourced .last .0) Out.TooLarge
-    (pairs-stop (FirstAt (c .before .before .before .before .before .before .before .before .before .before .before .args .x)
-    (c .before .before .before .before .before .before .before .before .before .before .before .args .xe)
-    (c .before .before .before .before .before .before .before .before .before .before .before .args .s))
-    (sourcedPart) (c .before .before .before .before .before .before .before .before .before .before .before .args .q .now)
+    (pairs-stop (FirstAt (c .before .before .before .before .before .before .before .before .before .before .before .args .first)
+    (c .before .before .before .before .before .before .before .before .before .before .before .args .built .from))
+    sourcedPart (c .before .before .before .before .before .before .before .before .before .before .before .args .query .now)
     (c .before .before .before .before .before .before .before .before .loop .at)
-    (c .before .before .before .before .before .before .before .before .before .before .before .args .e)
-    (c .before .before .before .before .before .before .before .before .loop .w)
-    (c .before .before .before .before .before .before .before .before .before .before .before .args .s)
-    (c .before .before .before .before .before .before .before .before .loop .end)
+    (c .before .before .before .before .before .before .before .before .before .before .before .args .keys .to)
+    (c .before .before .before .before .before .before .before .before .loop .work)
+    (c .before .before .before .before .before .before .before .before .before .before .before .args .built .from)
+    (c .before .before .before .before .before .before .before .before .loop .to)
     (c .before .before .before .before .before .before .before .loop-test .taken)
     (c .before .before .before .before .before .before .field-end .ensures)
     (c .before .before .before .before .add-sourced .ensures) (c .enum-told .given .1))
@@ -89,15 +90,14 @@ loop-less c =
 
 loop-again : tie.Need-loop-again Inv-loop μ-loop
 loop-again c = (
-  pairs-rest (FirstAt (c .before .before .before .before .before .before .before .before .before .before .before .before .args .x)
-      (c .before .before .before .before .before .before .before .before .before .before .before .before .args .xe)
-      (c .before .before .before .before .before .before .before .before .before .before .before .before .args .s))
-      (sourcedPart) (c .before .before .before .before .before .before .before .before .before .before .before .before .args .q .now)
+  pairs-rest (FirstAt (c .before .before .before .before .before .before .before .before .before .before .before .before .args .first)
+      (c .before .before .before .before .before .before .before .before .before .before .before .before .args .built .from))
+      sourcedPart (c .before .before .before .before .before .before .before .before .before .before .before .before .args .query .now)
       (c .before .before .before .before .before .before .before .before .before .loop .at)
-      (c .before .before .before .before .before .before .before .before .before .before .before .before .args .e)
-      (c .before .before .before .before .before .before .before .before .before .loop .w)
-      (c .before .before .before .before .before .before .before .before .before .before .before .before .args .s)
-      (c .before .before .before .before .before .before .before .before .before .loop .end)
+      (c .before .before .before .before .before .before .before .before .before .before .before .before .args .keys .to)
+      (c .before .before .before .before .before .before .before .before .before .loop .work)
+      (c .before .before .before .before .before .before .before .before .before .before .before .before .args .built .from)
+      (c .before .before .before .before .before .before .before .before .before .loop .to)
       (c .before .before .before .before .before .before .before .before .loop-test .taken)
       (c .before .before .before .before .before .before .before .field-end .ensures)
       (c .before .before .before .before .before .add-sourced .ensures) first-keep
@@ -108,15 +108,14 @@ loop-again c = (
       c .before .before .before .before .before .before .before .before .before .loop .inv .1,
   λ u r h. c .before .before .before .before .before .before .before .before .before .loop .inv .2
       u r (pairs-next (FirstAt
-      (c .before .before .before .before .before .before .before .before .before .before .before .before .args .x)
-      (c .before .before .before .before .before .before .before .before .before .before .before .before .args .xe)
-      (c .before .before .before .before .before .before .before .before .before .before .before .before .args .s))
-      (sourcedPart) (c .before .before .before .before .before .before .before .before .before .before .before .before .args .q .now)
+      (c .before .before .before .before .before .before .before .before .before .before .before .before .args .first)
+      (c .before .before .before .before .before .before .before .before .before .before .before .before .args .built .from))
+      sourcedPart (c .before .before .before .before .before .before .before .before .before .before .before .before .args .query .now)
       (c .before .before .before .before .before .before .before .before .before .loop .at)
-      (c .before .before .before .before .before .before .before .before .before .before .before .before .args .e)
-      (c .before .before .before .before .before .before .before .before .before .loop .w)
-      (c .before .before .before .before .before .before .before .before .before .before .before .before .args .s)
-      (c .before .before .before .before .before .before .before .before .before .loop .end)
+      (c .before .before .before .before .before .before .before .before .before .before .before .before .args .keys .to)
+      (c .before .before .before .before .before .before .before .before .before .loop .work)
+      (c .before .before .before .before .before .before .before .before .before .before .before .before .args .built .from)
+      (c .before .before .before .before .before .before .before .before .before .loop .to)
       (c .before .before .before .before .before .before .before .before .loop-test .taken)
       (c .before .before .before .before .before .before .before .field-end .ensures)
       (c .before .before .before .before .before .add-sourced .ensures) first-keep
@@ -128,13 +127,13 @@ same-length-2 c = search needs
 
 returns-2 : tie.Need-returns-2 Inv-loop μ-loop
 returns-2 c =
-    c .before .loop .inv .2 (c .before .loop .w) (Out.At (c .before .loop .end))
-    (pairs-done (FirstAt (c .before .before .before .before .args .x)
-    (c .before .before .before .before .args .xe) (c .before .before .before .before .args .s))
-    (sourcedPart) (c .before .before .before .before .args .q .now) (c .before .loop .at)
-    (c .before .before .before .before .args .e) (c .before .loop .w)
-    (c .before .before .before .before .args .s) (c .before .loop .end) (c .loop-test .left)
-    ((c .before .loop .inv .0) .within))
+    c .before .loop .inv .2 (c .before .loop .work) (Out.At (c .before .loop .to))
+    (pairs-done (FirstAt (c .before .before .before .before .args .first)
+    (c .before .before .before .before .args .built .from)) sourcedPart
+    (c .before .before .before .before .args .query .now) (c .before .loop .at)
+    (c .before .before .before .before .args .keys .to) (c .before .loop .work)
+    (c .before .before .before .before .args .built .from) (c .before .loop .to)
+    (c .loop-test .left) ((c .before .loop .inv .0) .within))
 
 pub add-identities-spec : {M : Type 1} → statement M
 add-identities-spec =

@@ -16,17 +16,16 @@ subset-requires c κs =
 
 returns : tie.Need-returns
 returns c =
-    begins-other (c .before .subset .ensures) (c .before .before .before .before .args .a)
-    (c .before .before .before .before .args .m) (c .if1 .taken)
+    begins-other (c .before .subset .ensures) 0 (c .before .before .before .before .args .sum)
+    (c .if1 .taken)
 
 is-first-requires : tie.Need-is-first-requires
 is-first-requires c κs = c .before .before .before .before .pre
 
 returns-2 : tie.Need-returns-2
 returns-2 c =
-    begins-first (c .before .before .subset .ensures)
-    (c .before .before .before .before .before .args .a)
-    (c .before .before .before .before .before .args .m) (c .before .if1 .left)
+    begins-first (c .before .before .subset .ensures) 0
+    (c .before .before .before .before .before .args .sum) (c .before .if1 .left)
     (c .is-first .ensures)
 
 pub begins-spec : {M : Type 1} → statement M

@@ -17,12 +17,12 @@ use Rattle.areas.proofs.area.field_end.Reads as field-end-reads
 use Rattle.group.proofs.key.same_key.Reads as same-key-reads
 
 abbrev Inv-loop : tie.InvT-loop
-Inv-loop w q g ge a x xe at₀ at =
-    HoldsOk AllowedA arrayTrees w at x
-    × ((r : Bool) → UnlikeIs w q g ge at x xe r → UnlikeIs w q g ge a x xe r)
+Inv-loop area query keys from tree end at₀ at =
+    HoldsOk AllowedA arrayTrees area at end
+    × ((r : Bool) → UnlikeIs area query keys at tree r → UnlikeIs area query keys from tree r)
 
 abbrev μ-loop : tie.MeasureT-loop
-μ-loop w q g ge a x xe at₀ at = x - at
+μ-loop area query keys from tree end at₀ at = end - at
 
 loop-holds : tie.Need-loop-holds Inv-loop μ-loop
 loop-holds c = (c .before .before .pre .seen, λ r h. h)
@@ -44,13 +44,13 @@ same-key-requires c κs = (
 returns : tie.Need-returns Inv-loop μ-loop
 returns c =
     c .before .before .before .before .loop .inv .1 false
-    (unlike-found (c .before .before .before .before .before .before .before .args .w .now)
-    (c .before .before .before .before .before .before .before .args .q .now)
-    (c .before .before .before .before .before .before .before .args .g)
-    (c .before .before .before .before .before .before .before .args .ge)
+    (unlike-found (c .before .before .before .before .before .before .before .args .area .now)
+    (c .before .before .before .before .before .before .before .args .query .now)
+    (c .before .before .before .before .before .before .before .args .keys .from)
+    (c .before .before .before .before .before .before .before .args .keys .to)
     (c .before .before .before .before .loop .at)
-    (c .before .before .before .before .before .before .before .args .x)
-    (c .before .before .before .before .before .before .before .args .xe)
+    (c .before .before .before .before .before .before .before .args .tree .from)
+    (c .before .before .before .before .before .before .before .args .tree .to)
     (c .before .before .before .loop-test .taken) (c .before .before .field-end .ensures)
     (c .before .same-key .ensures) (c .if1 .taken))
 
@@ -67,13 +67,13 @@ loop-again c = (
   array-rest (c .before .before .before .loop-test .taken)
       (c .before .before .field-end .ensures) (c .before .before .before .before .loop .inv .0),
   λ r h. c .before .before .before .before .loop .inv .1 r
-      (unlike-next (c .before .before .before .before .before .before .before .args .w .now)
-      (c .before .before .before .before .before .before .before .args .q .now)
-      (c .before .before .before .before .before .before .before .args .g)
-      (c .before .before .before .before .before .before .before .args .ge)
+      (unlike-next (c .before .before .before .before .before .before .before .args .area .now)
+      (c .before .before .before .before .before .before .before .args .query .now)
+      (c .before .before .before .before .before .before .before .args .keys .from)
+      (c .before .before .before .before .before .before .before .args .keys .to)
       (c .before .before .before .before .loop .at)
-      (c .before .before .before .before .before .before .before .args .x)
-      (c .before .before .before .before .before .before .before .args .xe)
+      (c .before .before .before .before .before .before .before .args .tree .from)
+      (c .before .before .before .before .before .before .before .args .tree .to)
       (c .before .before .before .loop-test .taken) (c .before .before .field-end .ensures)
       (c .before .same-key .ensures) (c .if1 .left) r h),
 )
@@ -81,11 +81,12 @@ loop-again c = (
 returns-2 : tie.Need-returns-2 Inv-loop μ-loop
 returns-2 c =
     c .before .loop .inv .1 true
-    (unlike-none (c .before .before .before .before .args .w .now)
-    (c .before .before .before .before .args .q .now) (c .before .before .before .before .args .g)
-    (c .before .before .before .before .args .ge) (c .before .loop .at)
-    (c .before .before .before .before .args .x) (c .before .before .before .before .args .xe)
-    (c .loop-test .left))
+    (unlike-none (c .before .before .before .before .args .area .now)
+    (c .before .before .before .before .args .query .now)
+    (c .before .before .before .before .args .keys .from)
+    (c .before .before .before .before .args .keys .to) (c .before .loop .at)
+    (c .before .before .before .before .args .tree .from)
+    (c .before .before .before .before .args .tree .to) (c .loop-test .left))
 
 pub is-first-spec : {M : Type 1} → statement M
 is-first-spec =

@@ -8,6 +8,7 @@ use Rattle.format.specs.Stand.{Holds}
 use Rattle.spec_queries.specs.Bytes.{pairF}
 use Rattle.queries.specs.Places.{pairsBytes}
 use Rattle.queries.specs.PartLaws.{list-places, list-first, list-rest}
+use Rattle.areas.specs.Area.{span}
 use Rattle.group.specs.Keys.{AlikeIs}
 use Rattle.group.specs.KeyLaws.{alike-none, alike-other, alike-next}
 use Rattle.group.proofs.key.same_key.Statement.{statement}
@@ -18,12 +19,13 @@ use Rattle.areas.proofs.area.field_end.Reads as field-end-reads
 use Rattle.group.proofs.key.same_source.Reads as same-source-reads
 
 abbrev Inv-loop : tie.InvT-loop
-Inv-loop q g ge s a b s2 a2 b2 at₀ at =
-    Holds pairsBytes q at ge
-    × ((r : Bool) → AlikeIs q at ge s a b s2 a2 b2 r → AlikeIs q g ge s a b s2 a2 b2 r)
+Inv-loop query area tree area2 tree2 end at₀ at =
+    Holds pairsBytes query at end
+    × ((r : Bool) → AlikeIs query (span at end) area tree area2 tree2 r → AlikeIs query
+    (span at₀ end) area tree area2 tree2 r)
 
 abbrev μ-loop : tie.MeasureT-loop
-μ-loop q g ge s a b s2 a2 b2 at₀ at = ge - at
+μ-loop query area tree area2 tree2 end at₀ at = end - at
 
 loop-holds : tie.Need-loop-holds Inv-loop μ-loop
 loop-holds c = (c .before .before .before .pre .0, λ r h. h)
@@ -43,15 +45,15 @@ same-source-requires c κs = (
 returns : tie.Need-returns Inv-loop μ-loop
 returns c =
     c .before .before .before .before .loop .inv .1 false
-    (alike-other (c .before .before .before .before .before .before .before .before .args .q .now)
+    (alike-other (c .before .before .before .before .before .before .before .before .args .query .now)
     (c .before .before .before .before .loop .at)
-    (c .before .before .before .before .before .before .before .before .args .ge)
-    (c .before .before .before .before .before .before .before .before .args .s .now)
-    (c .before .before .before .before .before .before .before .before .args .a)
-    (c .before .before .before .before .before .before .before .before .args .b)
-    (c .before .before .before .before .before .before .before .before .args .s2 .now)
-    (c .before .before .before .before .before .before .before .before .args .a2)
-    (c .before .before .before .before .before .before .before .before .args .b2)
+    (c .before .before .before .before .before .before .before .before .args .keys .to)
+    (c .before .before .before .before .before .before .before .before .args .area .now)
+    (c .before .before .before .before .before .before .before .before .args .tree .from)
+    (c .before .before .before .before .before .before .before .before .args .tree .to)
+    (c .before .before .before .before .before .before .before .before .args .area2 .now)
+    (c .before .before .before .before .before .before .before .before .args .tree2 .from)
+    (c .before .before .before .before .before .before .before .before .args .tree2 .to)
     (c .before .before .before .loop-test .taken) (c .before .before .field-end .ensures)
     (c .before .same-source .ensures) (not-true _ (c .if1 .taken)))
 
@@ -68,15 +70,15 @@ loop-again c = (
   list-rest pairF (c .before .before .before .loop-test .taken)
       (c .before .before .field-end .ensures) (c .before .before .before .before .loop .inv .0),
   λ r h. c .before .before .before .before .loop .inv .1 r
-      (alike-next (c .before .before .before .before .before .before .before .before .args .q .now)
+      (alike-next (c .before .before .before .before .before .before .before .before .args .query .now)
       (c .before .before .before .before .loop .at)
-      (c .before .before .before .before .before .before .before .before .args .ge)
-      (c .before .before .before .before .before .before .before .before .args .s .now)
-      (c .before .before .before .before .before .before .before .before .args .a)
-      (c .before .before .before .before .before .before .before .before .args .b)
-      (c .before .before .before .before .before .before .before .before .args .s2 .now)
-      (c .before .before .before .before .before .before .before .before .args .a2)
-      (c .before .before .before .before .before .before .before .before .args .b2)
+      (c .before .before .before .before .before .before .before .before .args .keys .to)
+      (c .before .before .before .before .before .before .before .before .args .area .now)
+      (c .before .before .before .before .before .before .before .before .args .tree .from)
+      (c .before .before .before .before .before .before .before .before .args .tree .to)
+      (c .before .before .before .before .before .before .before .before .args .area2 .now)
+      (c .before .before .before .before .before .before .before .before .args .tree2 .from)
+      (c .before .before .before .before .before .before .before .before .args .tree2 .to)
       (c .before .before .before .loop-test .taken) (c .before .before .field-end .ensures)
       (c .before .same-source .ensures) (not-false _ (c .if1 .left)) r h),
 )
@@ -84,14 +86,14 @@ loop-again c = (
 returns-2 : tie.Need-returns-2 Inv-loop μ-loop
 returns-2 c =
     c .before .loop .inv .1 true
-    (alike-none (c .before .before .before .before .before .args .q .now) (c .before .loop .at)
-    (c .before .before .before .before .before .args .ge)
-    (c .before .before .before .before .before .args .s .now)
-    (c .before .before .before .before .before .args .a)
-    (c .before .before .before .before .before .args .b)
-    (c .before .before .before .before .before .args .s2 .now)
-    (c .before .before .before .before .before .args .a2)
-    (c .before .before .before .before .before .args .b2) (c .loop-test .left))
+    (alike-none (c .before .before .before .before .before .args .query .now) (c .before .loop .at)
+    (c .before .before .before .before .before .args .keys .to)
+    (c .before .before .before .before .before .args .area .now)
+    (c .before .before .before .before .before .args .tree .from)
+    (c .before .before .before .before .before .args .tree .to)
+    (c .before .before .before .before .before .args .area2 .now)
+    (c .before .before .before .before .before .args .tree2 .from)
+    (c .before .before .before .before .before .args .tree2 .to) (c .loop-test .left))
 
 pub same-key-spec : {M : Type 1} → statement M
 same-key-spec =

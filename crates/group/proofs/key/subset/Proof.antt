@@ -6,6 +6,7 @@ use Prim.Native.Nat.{ℕ, _+_, _*_, _-_, _<_}
 use Rattle.spec_queries.specs.Bytes.{pairF}
 use Rattle.queries.specs.Places.{pairsBytes, HoldsOk}
 use Rattle.queries.specs.PartLaws.{holds-of, list-places, list-first}
+use Rattle.areas.specs.Area.{span}
 use Rattle.group.specs.Keys.{SubsetIs}
 use Rattle.group.specs.KeyLaws.{
   WeightFits,
@@ -25,20 +26,22 @@ use Rattle.group.proofs.key.counted.Reads as counted-reads
 use Rattle.group.proofs.key.sourced.Reads as sourced-reads
 
 abbrev Inv-loop : tie.InvT-loop
-Inv-loop q g ge s a b sum₀ weight₀ at₀ sum weight at =
-    (sum < weight) × HoldsOk (WeightFits weight) pairsBytes q at ge
-    × ((n : ℕ) → SubsetIs q at ge s a b n → SubsetIs q g ge s a b (sum + weight * n))
+Inv-loop query area tree end sum₀ weight₀ at₀ sum weight at =
+    (sum < weight) × HoldsOk (WeightFits weight) pairsBytes query at end
+    × ((n : ℕ) → SubsetIs query (span at end) area tree n → SubsetIs query (span at₀ end) area tree
+    (sum + weight * n))
 
 abbrev μ-loop : tie.MeasureT-loop
-μ-loop q g ge s a b sum₀ weight₀ at₀ sum weight at = ge - at
+μ-loop query area tree end sum₀ weight₀ at₀ sum weight at = end - at
 
 loop-holds : tie.Need-loop-holds Inv-loop μ-loop
 loop-holds c = (
   omega arith,
   weighed-first (c .before .before .pre .0),
   subset-start
-      (c .before .before .args .q .now) (c .before .before .args .g) (c .before .before .args .ge)
-      (c .before .before .args .s .now) (c .before .before .args .a) (c .before .before .args .b),
+      (c .before .before .args .query .now) (c .before .before .args .keys .from)
+      (c .before .before .args .keys .to) (c .before .before .args .area .now)
+      (c .before .before .args .tree .from) (c .before .before .args .tree .to),
 )
 
 field-end-requires : tie.Need-field-end-requires Inv-loop μ-loop
@@ -87,13 +90,13 @@ loop-again c = (
   omega (arith, c .before .before .before .before .loop .inv .0, c .counted .ensures .1),
   weighed-next (c .before .before .before .loop-test .taken)
       (c .before .before .field-end .ensures) (c .before .before .before .before .loop .inv .1),
-  subset-on (c .before .before .before .before .before .before .before .args .q .now)
-      (c .before .before .before .before .before .before .before .args .g)
+  subset-on (c .before .before .before .before .before .before .before .args .query .now)
+      (c .before .before .before .before .before .before .before .args .keys .from)
       (c .before .before .before .before .loop .at)
-      (c .before .before .before .before .before .before .before .args .ge)
-      (c .before .before .before .before .before .before .before .args .s .now)
-      (c .before .before .before .before .before .before .before .args .a)
-      (c .before .before .before .before .before .before .before .args .b)
+      (c .before .before .before .before .before .before .before .args .keys .to)
+      (c .before .before .before .before .before .before .before .args .area .now)
+      (c .before .before .before .before .before .before .before .args .tree .from)
+      (c .before .before .before .before .before .before .before .args .tree .to)
       (c .before .before .before .before .loop .sum)
       (c .before .before .before .before .loop .weight)
       (c .before .before .before .before .loop .inv .2)
@@ -103,11 +106,13 @@ loop-again c = (
 
 returns : tie.Need-returns Inv-loop μ-loop
 returns c =
-    subset-end (c .before .before .before .before .args .q .now)
-    (c .before .before .before .before .args .g) (c .before .loop .at)
-    (c .before .before .before .before .args .ge) (c .before .before .before .before .args .s .now)
-    (c .before .before .before .before .args .a) (c .before .before .before .before .args .b)
-    (c .before .loop .sum) (c .before .loop .weight) (c .before .loop .inv .2) (c .loop-test .left)
+    subset-end (c .before .before .before .before .args .query .now)
+    (c .before .before .before .before .args .keys .from) (c .before .loop .at)
+    (c .before .before .before .before .args .keys .to)
+    (c .before .before .before .before .args .area .now)
+    (c .before .before .before .before .args .tree .from)
+    (c .before .before .before .before .args .tree .to) (c .before .loop .sum)
+    (c .before .loop .weight) (c .before .loop .inv .2) (c .loop-test .left)
 
 pub subset-spec : {M : Type 1} → statement M
 subset-spec =

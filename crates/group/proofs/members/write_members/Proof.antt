@@ -8,6 +8,7 @@ use lib.ListN.{length}
 use Rattle.spec_trees.specs.Within.{AllowedA}
 use Rattle.queries.specs.Places.{arrayTrees}
 use Rattle.data.specs.declared.value.Value.{Value}
+use Rattle.areas.specs.Area.{span}
 use Rattle.group.specs.Members.{MembersReady, MembersFrom, WroteMembers}
 use Rattle.queries.specs.TreesLaws.{array-places}
 use Rattle.group.specs.MembersLaws.{
@@ -31,13 +32,14 @@ use Rattle.data.proofs.value.is_large.Reads as is-large-reads
 use Rattle.group.proofs.members.write_member.Reads as write-member-reads
 
 abbrev Inv-loop : tie.InvT-loop
-Inv-loop w₀ q g ge p e x xe b d stop at₀ to₀ any₀ w at to any =
-    MembersReady AllowedA arrayTrees w q g ge p e x xe at b to stop × (length w ≡ length w₀)
-    × ((u : List ℕ) (r : Value) → MembersFrom any w u q g ge p e x xe at b to stop r → WroteMembers
-    w₀ u q g ge p e x xe b d stop r)
+Inv-loop work₀ query keys source first end stop at₀ to₀ any₀ work at to any =
+    MembersReady AllowedA arrayTrees work query keys source first (span at end) (span to stop) ×
+    (length work ≡ length work₀)
+    × ((u : List ℕ) (r : Value) → MembersFrom any work u query keys source first (span at end)
+    (span to stop) r → WroteMembers work₀ u query keys source first end (span to₀ stop) r)
 
 abbrev μ-loop : tie.MeasureT-loop
-μ-loop w₀ q g ge p e x xe b d stop at₀ to₀ any₀ w at to any = b - at
+μ-loop work₀ query keys source first end stop at₀ to₀ any₀ work at to any = end - at
 
 loop-holds : tie.Need-loop-holds Inv-loop μ-loop
 loop-holds c = (members-ready (c .before .before .pre), refl, members-whole)
@@ -52,18 +54,17 @@ field-end-requires c κs =
 
 write-member-requires : tie.Need-write-member-requires Inv-loop μ-loop
 write-member-requires c κs =
-    members-first (c .before .before .before .before .loop .w)
-    (c .before .before .before .before .before .before .before .args .q .now)
-    (c .before .before .before .before .before .before .before .args .g)
-    (c .before .before .before .before .before .before .before .args .ge)
-    (c .before .before .before .before .before .before .before .args .p)
-    (c .before .before .before .before .before .before .before .args .e)
-    (c .before .before .before .before .before .before .before .args .x)
-    (c .before .before .before .before .before .before .before .args .xe)
+    members-first (c .before .before .before .before .loop .work)
+    (c .before .before .before .before .before .before .before .args .query .now)
+    (c .before .before .before .before .before .before .before .args .keys .from)
+    (c .before .before .before .before .before .before .before .args .keys .to)
+    (c .before .before .before .before .before .before .before .args .source)
+    (c .before .before .before .before .before .before .before .args .first .from)
+    (c .before .before .before .before .before .before .before .args .first .to)
     (c .before .before .before .before .loop .at)
-    (c .before .before .before .before .before .before .before .args .b)
+    (c .before .before .before .before .before .before .before .args .end)
     (c .before .before .before .before .loop .to)
-    (c .before .before .before .before .before .before .before .args .stop)
+    (c .before .before .before .before .before .before .before .args .room .to)
     (c .before .before .before .loop-test .taken) (c .before .field-end .ensures)
     (c .before .before .before .before .loop .inv .0)
 
@@ -77,18 +78,17 @@ returns : tie.Need-returns Inv-loop μ-loop
 returns c =
     c .before .before .before .before .before .before .before .before .before .loop .inv .2
     (c .before .before .before .before .write-member .last .0) Value.TooLarge
-    (members-stop (c .before .before .before .before .before .before .before .before .before .loop .w)
-    (c .before .before .before .before .before .before .before .before .before .before .before .before .args .q .now)
-    (c .before .before .before .before .before .before .before .before .before .before .before .before .args .g)
-    (c .before .before .before .before .before .before .before .before .before .before .before .before .args .ge)
-    (c .before .before .before .before .before .before .before .before .before .before .before .before .args .p)
-    (c .before .before .before .before .before .before .before .before .before .before .before .before .args .e)
-    (c .before .before .before .before .before .before .before .before .before .before .before .before .args .x)
-    (c .before .before .before .before .before .before .before .before .before .before .before .before .args .xe)
+    (members-stop (c .before .before .before .before .before .before .before .before .before .loop .work)
+    (c .before .before .before .before .before .before .before .before .before .before .before .before .args .query .now)
+    (c .before .before .before .before .before .before .before .before .before .before .before .before .args .keys .from)
+    (c .before .before .before .before .before .before .before .before .before .before .before .before .args .keys .to)
+    (c .before .before .before .before .before .before .before .before .before .before .before .before .args .source)
+    (c .before .before .before .before .before .before .before .before .before .before .before .before .args .first .from)
+    (c .before .before .before .before .before .before .before .before .before .before .before .before .args .first .to)
     (c .before .before .before .before .before .before .before .before .before .loop .at)
-    (c .before .before .before .before .before .before .before .before .before .before .before .before .args .b)
+    (c .before .before .before .before .before .before .before .before .before .before .before .before .args .end)
     (c .before .before .before .before .before .before .before .before .before .loop .to)
-    (c .before .before .before .before .before .before .before .before .before .before .before .before .args .stop)
+    (c .before .before .before .before .before .before .before .before .before .before .before .before .args .room .to)
     (c .before .before .before .before .before .before .before .before .loop-test .taken)
     (c .before .before .before .before .before .before .field-end .ensures)
     (c .before .before .before .before .before .before .before .before .before .loop .any)
@@ -113,18 +113,17 @@ loop-less c =
 
 loop-again : tie.Need-loop-again Inv-loop μ-loop
 loop-again c = (
-  members-rest (c .before .before .before .before .before .before .before .before .before .before .before .loop .w)
-      (c .before .before .before .before .before .before .before .before .before .before .before .before .before .before .args .q .now)
-      (c .before .before .before .before .before .before .before .before .before .before .before .before .before .before .args .g)
-      (c .before .before .before .before .before .before .before .before .before .before .before .before .before .before .args .ge)
-      (c .before .before .before .before .before .before .before .before .before .before .before .before .before .before .args .p)
-      (c .before .before .before .before .before .before .before .before .before .before .before .before .before .before .args .e)
-      (c .before .before .before .before .before .before .before .before .before .before .before .before .before .before .args .x)
-      (c .before .before .before .before .before .before .before .before .before .before .before .before .before .before .args .xe)
+  members-rest (c .before .before .before .before .before .before .before .before .before .before .before .loop .work)
+      (c .before .before .before .before .before .before .before .before .before .before .before .before .before .before .args .query .now)
+      (c .before .before .before .before .before .before .before .before .before .before .before .before .before .before .args .keys .from)
+      (c .before .before .before .before .before .before .before .before .before .before .before .before .before .before .args .keys .to)
+      (c .before .before .before .before .before .before .before .before .before .before .before .before .before .before .args .source)
+      (c .before .before .before .before .before .before .before .before .before .before .before .before .before .before .args .first .from)
+      (c .before .before .before .before .before .before .before .before .before .before .before .before .before .before .args .first .to)
       (c .before .before .before .before .before .before .before .before .before .before .before .loop .at)
-      (c .before .before .before .before .before .before .before .before .before .before .before .before .before .before .args .b)
+      (c .before .before .before .before .before .before .before .before .before .before .before .before .before .before .args .end)
       (c .before .before .before .before .before .before .before .before .before .before .before .loop .to)
-      (c .before .before .before .before .before .before .before .before .before .before .before .before .before .before .args .stop)
+      (c .before .before .before .before .before .before .before .before .before .before .before .before .before .before .args .room .to)
       (c .before .before .before .before .before .before .before .before .before .before .loop-test .taken)
       (c .before .before .before .before .before .before .before .before .field-end .ensures)
       (c .before .before .before .before .before .before .before .before .before .before .before .loop .inv .0)
@@ -134,18 +133,17 @@ loop-again c = (
   c .before .before .before .before .before .before .write-member .kept .0 ∙
       c .before .before .before .before .before .before .before .before .before .before .before .loop .inv .1,
   λ u r h. c .before .before .before .before .before .before .before .before .before .before .before .loop .inv .2
-      u r (members-next (c .before .before .before .before .before .before .before .before .before .before .before .loop .w)
-      (c .before .before .before .before .before .before .before .before .before .before .before .before .before .before .args .q .now)
-      (c .before .before .before .before .before .before .before .before .before .before .before .before .before .before .args .g)
-      (c .before .before .before .before .before .before .before .before .before .before .before .before .before .before .args .ge)
-      (c .before .before .before .before .before .before .before .before .before .before .before .before .before .before .args .p)
-      (c .before .before .before .before .before .before .before .before .before .before .before .before .before .before .args .e)
-      (c .before .before .before .before .before .before .before .before .before .before .before .before .before .before .args .x)
-      (c .before .before .before .before .before .before .before .before .before .before .before .before .before .before .args .xe)
+      u r (members-next (c .before .before .before .before .before .before .before .before .before .before .before .loop .work)
+      (c .before .before .before .before .before .before .before .before .before .before .before .before .before .before .args .query .now)
+      (c .before .before .before .before .before .before .before .before .before .before .before .before .before .before .args .keys .from)
+      (c .before .before .before .before .before .before .before .before .before .before .before .before .before .before .args .keys .to)
+      (c .before .before .before .before .before .before .before .before .before .before .before .before .before .before .args .source)
+      (c .before .before .before .before .before .before .before .before .before .before .before .before .before .before .args .first .from)
+      (c .before .before .before .before .before .before .before .before .before .before .before .before .before .before .args .first .to)
       (c .before .before .before .before .before .before .before .before .before .before .before .loop .at)
-      (c .before .before .before .before .before .before .before .before .before .before .before .before .before .before .args .b)
+      (c .before .before .before .before .before .before .before .before .before .before .before .before .before .before .args .end)
       (c .before .before .before .before .before .before .before .before .before .before .before .loop .to)
-      (c .before .before .before .before .before .before .before .before .before .before .before .before .before .before .args .stop)
+      (c .before .before .before .before .before .before .before .before .before .before .before .before .before .before .args .room .to)
       (c .before .before .before .before .before .before .before .before .before .before .loop-test .taken)
       (c .before .before .before .before .before .before .before .before .field-end .ensures)
       (c .before .before .before .before .before .before .before .before .before .before .before .loop .any)
@@ -169,17 +167,16 @@ same-length-2 c = search needs
 
 returns-2 : tie.Need-returns-2 Inv-loop μ-loop
 returns-2 c =
-    c .before .before .loop .inv .2 (c .before .before .loop .w) (c .answer-of .result)
-    (members-done (c .before .before .loop .w)
-    (c .before .before .before .before .before .args .q .now)
-    (c .before .before .before .before .before .args .g)
-    (c .before .before .before .before .before .args .ge)
-    (c .before .before .before .before .before .args .p)
-    (c .before .before .before .before .before .args .e)
-    (c .before .before .before .before .before .args .x)
-    (c .before .before .before .before .before .args .xe) (c .before .before .loop .at)
-    (c .before .before .before .before .before .args .b) (c .before .before .loop .to)
-    (c .before .before .before .before .before .args .stop) (c .before .before .loop .any)
+    c .before .before .loop .inv .2 (c .before .before .loop .work) (c .answer-of .result)
+    (members-done (c .before .before .loop .work)
+    (c .before .before .before .before .before .args .query .now)
+    (c .before .before .before .before .before .args .keys .from)
+    (c .before .before .before .before .before .args .keys .to)
+    (c .before .before .before .before .before .args .source)
+    (c .before .before .before .before .before .args .first .from)
+    (c .before .before .before .before .before .args .first .to) (c .before .before .loop .at)
+    (c .before .before .before .before .before .args .end) (c .before .before .loop .to)
+    (c .before .before .before .before .before .args .room .to) (c .before .before .loop .any)
     (c .answer-of .ensures) (c .before .loop-test .left) ((c .before .before .loop .inv .0) .room))
 
 pub write-members-spec : {M : Type 1} → statement M

@@ -28,7 +28,8 @@ same-length c = search needs
 
 returns : tie.Need-returns
 returns c =
-    match-copied (c .before .before .before .before .before .before .joins .ensures)
+    match-copied (c .before .before .before .before .before .before .before .before .before .before .before .args .at)
+    (c .before .before .before .before .before .before .joins .ensures)
     (c .before .before .before .before .before .if1 .taken) (c .before .before .copy-in .ensures)
 
 same-length-2 : tie.Need-same-length-2
@@ -36,7 +37,8 @@ same-length-2 c = search needs
 
 returns-2 : tie.Need-returns-2
 returns-2 c =
-    match-left (c .before .joins .ensures) (c .if1 .left)
+    match-left (c .before .before .before .before .before .before .args .at)
+    (c .before .joins .ensures) (c .if1 .left)
     (c .before .before .before .before .before .before .pre .room)
 
 pub copy-match-spec : {M : Type 1} → statement M

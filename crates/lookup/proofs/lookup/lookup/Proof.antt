@@ -1,8 +1,6 @@
 -- Made from Proof.ans by answers.py, which overwrites this file: edit Proof.ans.
 use native.Mathlib.Omega.{arith}
-use mathlib.Core.Path.{ap}
-use Prim.Native.Nat.{_*_}
-use Rattle.build.specs.MadeLaws.{target-heads}
+use Rattle.build.specs.MadeLaws.{target-along, target-room}
 use Rattle.lookup.specs.LookupLaws.{lookup-matching, lookup-value, lookup-adding, lookup-made}
 use borrow.Author.Needs.{needs}
 use Rattle.lookup.proofs.lookup.lookup.Statement.{statement}
@@ -13,54 +11,47 @@ use Rattle.build.proofs.part.add_written.Reads as add-written-reads
 use Rattle.build.proofs.part.place_value.Reads as place-value-reads
 use Rattle.data.proofs.value.value_of.Reads as value-of-reads
 use Rattle.lookup.proofs.lookup.copy_partners.Reads as copy-partners-reads
-use Rattle.queries.proofs.path.steps.Reads as steps-reads
+use Rattle.place.proofs.place.heads_room.Reads as heads-room-reads
 
-add-d : tie.Need-add-d
-add-d c = search needs
+add-from : tie.Need-add-from
+add-from c = search needs
 
-steps-requires : tie.Need-steps-requires
-steps-requires c κs = search needs
+add-to : tie.Need-add-to
+add-to c = search needs
 
-mul-n : tie.Need-mul-n
-mul-n c =
-    omega (arith, c .steps .ensures, target-heads (c .before .before .before .before .pre .target))
+heads-room-requires : tie.Need-heads-room-requires
+heads-room-requires c κs = target-along (c .before .before .before .before .pre .target)
 
-add-copy-partners : tie.Need-add-copy-partners
-add-copy-partners c =
+add-t13 : tie.Need-add-t13
+add-t13 c =
     omega (
       arith,
-      c .before .steps .ensures,
-      target-heads
+      c .heads-room .ensures,
+      target-room
           (c .before .before .before .before .before .pre .target),
       c .before .before .before .before .before .pre .room,
       c .before .before .before .before .before .pre .small,
     )
 
-add-copy-partners-2 : tie.Need-add-copy-partners-2
-add-copy-partners-2 c = search needs
-
 copy-partners-requires : tie.Need-copy-partners-requires
 copy-partners-requires c κs =
-    lookup-matching (c .before .before .before .before .before .pre)
-    (ap (λ k. 13 * k) (c .before .steps .ensures))
-
-add-place-value : tie.Need-add-place-value
-add-place-value c = search needs
+    lookup-matching (c .before .before .before .before .before .before .pre)
+    (c .before .heads-room .ensures)
 
 value-of-requires : tie.Need-value-of-requires
 value-of-requires c κs = search needs
 
 place-value-requires : tie.Need-place-value-requires
 place-value-requires c κs =
-    lookup-value (c .before .before .before .before .before .before .before .before .before .before .pre)
-    (ap (λ k. 13 * k) (c .before .before .before .before .before .before .steps .ensures))
+    lookup-value (c .before .before .before .before .before .before .before .before .before .before .before .pre)
+    (c .before .before .before .before .before .before .heads-room .ensures)
     (c .before .before .before .before .copy-partners .kept .0)
     (c .before .before .before .before .copy-partners .ensures) (c .value-of .ensures)
 
 add-written-requires : tie.Need-add-written-requires
 add-written-requires c κs =
-    lookup-adding (c .before .before .before .before .before .before .before .before .before .before .before .before .before .before .pre)
-    (ap (λ k. 13 * k) (c .before .before .before .before .before .before .before .before .before .before .steps .ensures))
+    lookup-adding (c .before .before .before .before .before .before .before .before .before .before .before .before .before .before .before .pre)
+    (c .before .before .before .before .before .before .before .before .before .before .heads-room .ensures)
     (c .before .before .before .before .before .before .before .before .copy-partners .kept .0)
     (c .before .before .before .before .before .before .before .before .copy-partners .ensures)
     (c .before .before .before .before .value-of .ensures)
@@ -72,8 +63,8 @@ same-length c = search needs
 
 returns : tie.Need-returns
 returns c =
-    lookup-made (c .before .before .before .before .before .before .before .before .before .before .before .before .before .before .before .before .before .pre)
-    (ap (λ k. 13 * k) (c .before .before .before .before .before .before .before .before .before .before .before .before .before .steps .ensures))
+    lookup-made (c .before .before .before .before .before .before .before .before .before .before .before .before .before .before .before .before .before .before .pre)
+    (c .before .before .before .before .before .before .before .before .before .before .before .before .before .heads-room .ensures)
     (c .before .before .before .before .before .before .before .before .before .before .before .copy-partners .kept .0)
     (c .before .before .before .before .before .before .before .before .before .before .before .copy-partners .ensures)
     (c .before .before .before .before .before .before .before .value-of .ensures)
@@ -85,13 +76,11 @@ pub lookup-spec : {M : Type 1} → statement M
 lookup-spec =
     tie.close
     (tie.spec
-    add-d
-    steps-requires
-    mul-n
-    add-copy-partners
-    add-copy-partners-2
+    add-from
+    add-to
+    heads-room-requires
+    add-t13
     copy-partners-requires
-    add-place-value
     value-of-requires
     place-value-requires
     add-written-requires

@@ -5,13 +5,13 @@ use Rattle.lookup.proofs.matching.joins.Statement.{statement}
 use Rattle.lookup.proofs.matching.joins.Tie as tie
 use Rattle.lookup.proofs.matching.joins.Reads as reads
 use Rattle.lookup.proofs.matching.joins.Lts as lts
-use Rattle.paths.proofs.equality.same_paths.Reads as same-paths-reads
+use Rattle.paths.proofs.equality.same_keys.Reads as same-keys-reads
 
-same-paths-requires : tie.Need-same-paths-requires
-same-paths-requires c κs = search needs
+same-keys-requires : tie.Need-same-keys-requires
+same-keys-requires c κs = search needs
 
 returns : tie.Need-returns
-returns c = joins-is (c .same-paths .ensures)
+returns c = joins-is (c .same-keys .ensures)
 
 pub joins-spec : {M : Type 1} → statement M
-joins-spec = tie.close (tie.spec same-paths-requires returns)
+joins-spec = tie.close (tie.spec same-keys-requires returns)

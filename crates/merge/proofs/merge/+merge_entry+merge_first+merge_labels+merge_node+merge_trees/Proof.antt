@@ -6,8 +6,9 @@ use mathlib.Core.List.{List}
 use Prim.Native.Nat.{ℕ, _+_, _*_, _-_, _≤_}
 use lib.ListN.{length}
 use Rattle.areas.specs.declared.area.Out.{Out}
+use Rattle.areas.specs.Area.{span}
 use Rattle.format.specs.Stand.{labelsBytes, treesBytes}
-use Rattle.format.specs.StandLaws.{tree-places, labels-places, trees-places}
+use Rattle.format.specs.StandLaws.{heads-most, tree-places, labels-places, trees-places}
 use Rattle.spec_stages.specs.MergeTwo.{mergeTwoL, mergeTwoA}
 use Rattle.merge.specs.MergeBytes.{MergeReady, Merged}
 use Rattle.merge.specs.MergeBytesLaws.{
@@ -26,9 +27,11 @@ use Rattle.merge.specs.MergeBytesLaws.{
   labels-second-none,
   ready-first,
   labels-turn,
-  fingers,
-  fingers-fall,
+  places-move,
+  places-fall,
   entry-places,
+  entry-heads,
+  entry-trees-at,
   first-less,
   first-more,
   entry-both,
@@ -63,7 +66,9 @@ use Rattle.merge.proofs.merge.+merge_entry+merge_first+merge_labels+mer
 use Rattle.areas.proofs.area.copy.Reads as copy-reads
 use Rattle.areas.proofs.area.field_end.Reads as field-end-reads
 use Rattle.areas.proofs.area.finish.Reads as finish-reads
+use Rattle.format.proofs.labels.heads.Reads as heads-reads
 use Rattle.format.proofs.labels.label_at.Reads as label-at-reads
+use Rattle.format.proofs.labels.trees_at.Reads as trees-at-reads
 use Rattle.merge.proofs.merge.choose.Reads as choose-reads
 use Rattle.merge.proofs.merge.merge_root.Reads as merge-root-reads
 use Rattle.merge.proofs.merge.+merge_entry+merge_first+merge_labels+merge_node+merge_trees.{
@@ -74,19 +79,19 @@ use Rattle.merge.proofs.merge.+merge_entry+merge_first+merge_labels+mer
 }
 
 abbrev μ-merge-entry : Measures 1 merge-entry-kinds.ps ℕ
-μ-merge-entry κs a = 3 * ((a .1 .1 .0 - a .1 .0) + (a .1 .1 .1 .1 .0 - a .1 .1 .1 .0))
+μ-merge-entry κs a = 3 * ((a .1 .0 .to - a .1 .0 .from) + (a .1 .1 .0 .to - a .1 .1 .0 .from))
 
 abbrev μ-merge-first : Measures 1 merge-first-kinds.ps ℕ
-μ-merge-first κs a = 3 * ((a .1 .1 .0 - a .1 .0) + (a .1 .1 .1 .1 .0 - a .1 .1 .1 .0)) + 1
+μ-merge-first κs a = 3 * ((a .1 .0 .to - a .1 .0 .from) + (a .1 .1 .0 .to - a .1 .1 .0 .from)) + 1
 
 abbrev μ-merge-labels : Measures 1 merge-labels-kinds.ps ℕ
-μ-merge-labels κs a = 3 * ((a .1 .1 .0 - a .1 .0) + (a .1 .1 .1 .1 .0 - a .1 .1 .1 .0)) + 2
+μ-merge-labels κs a = 3 * ((a .1 .0 .to - a .1 .0 .from) + (a .1 .1 .0 .to - a .1 .1 .0 .from)) + 2
 
 abbrev μ-merge-node : Measures 1 merge-node-kinds.ps ℕ
-μ-merge-node κs a = 3 * ((a .1 .1 .0 - a .1 .0) + (a .1 .1 .1 .1 .0 - a .1 .1 .1 .0))
+μ-merge-node κs a = 3 * ((a .1 .0 .to - a .1 .0 .from) + (a .1 .1 .0 .to - a .1 .1 .0 .from))
 
 abbrev μ-merge-trees : Measures 1 merge-trees-kinds.ps ℕ
-μ-merge-trees κs a = 3 * ((a .1 .1 .0 - a .1 .0) + (a .1 .1 .1 .1 .0 - a .1 .1 .1 .0)) + 1
+μ-merge-trees κs a = 3 * ((a .1 .0 .to - a .1 .0 .from) + (a .1 .1 .0 .to - a .1 .1 .0 .from)) + 1
 
 abbrev merge-entry-at : ℕ → In 1 merge-entry-kinds.ps
 merge-entry-at t =
@@ -132,7 +137,13 @@ abbrev merge-trees-below : ℕ → In 1 merge-trees-kinds.ps
 merge-trees-below t =
     and 1 merge-trees-kinds.ps (falls 1 merge-trees-kinds.ps _<_ μ-merge-trees t) merge-trees.Pre
 
-merge-entry-sub-if1 : (t : ℕ) → merge-entry-lts.Need-sub-if1 (
+merge-entry-label-at-requires : (t : ℕ) → merge-entry-lts.Need-label-at-requires (
+  label-at-reads.Asked,
+  label-at-reads.Learnt,
+  heads-reads.Asked,
+  heads-reads.Learnt,
+  trees-at-reads.Asked,
+  trees-at-reads.Learnt,
   copy-reads.Asked,
   copy-reads.Learnt,
   merge-trees-below t,
@@ -140,9 +151,113 @@ merge-entry-sub-if1 : (t : ℕ) → merge-entry-lts.Need-sub-if1 (
   finish-reads.Asked,
   finish-reads.Learnt,
 ) (merge-entry-at t) merge-entry.Post
-merge-entry-sub-if1 t c = search needs
+merge-entry-label-at-requires t c κs =
+    omega (arith, (entry-places ((c .before .before .pre .1) .first)))
+
+merge-entry-heads-requires : (t : ℕ) → merge-entry-lts.Need-heads-requires (
+  label-at-reads.Asked,
+  label-at-reads.Learnt,
+  heads-reads.Asked,
+  heads-reads.Learnt,
+  trees-at-reads.Asked,
+  trees-at-reads.Learnt,
+  copy-reads.Asked,
+  copy-reads.Learnt,
+  merge-trees-below t,
+  merge-trees.Post,
+  finish-reads.Asked,
+  finish-reads.Learnt,
+) (merge-entry-at t) merge-entry.Post
+merge-entry-heads-requires t c κs = search needs
+
+merge-entry-add-x : (t : ℕ) → merge-entry-lts.Need-add-x (
+  label-at-reads.Asked,
+  label-at-reads.Learnt,
+  heads-reads.Asked,
+  heads-reads.Learnt,
+  trees-at-reads.Asked,
+  trees-at-reads.Learnt,
+  copy-reads.Asked,
+  copy-reads.Learnt,
+  merge-trees-below t,
+  merge-trees.Post,
+  finish-reads.Asked,
+  finish-reads.Learnt,
+) (merge-entry-at t) merge-entry.Post
+merge-entry-add-x t c =
+    omega (
+      arith,
+      (entry-places ((c .before .before .before .before .pre .1) .first)),
+      (c .before .before .before .before .pre .1) .area,
+      c .heads .ensures,
+      heads-most
+          (c .before .label-at .result),
+    )
+
+merge-entry-trees-at-requires : (t : ℕ) → merge-entry-lts.Need-trees-at-requires (
+  label-at-reads.Asked,
+  label-at-reads.Learnt,
+  heads-reads.Asked,
+  heads-reads.Learnt,
+  trees-at-reads.Asked,
+  trees-at-reads.Learnt,
+  copy-reads.Asked,
+  copy-reads.Learnt,
+  merge-trees-below t,
+  merge-trees.Post,
+  finish-reads.Asked,
+  finish-reads.Learnt,
+) (merge-entry-at t) merge-entry.Post
+merge-entry-trees-at-requires t c κs =
+    omega (arith, (entry-places ((c .before .before .before .before .before .pre .1) .second)))
+
+merge-entry-sub-if1 : (t : ℕ) → merge-entry-lts.Need-sub-if1 (
+  label-at-reads.Asked,
+  label-at-reads.Learnt,
+  heads-reads.Asked,
+  heads-reads.Learnt,
+  trees-at-reads.Asked,
+  trees-at-reads.Learnt,
+  copy-reads.Asked,
+  copy-reads.Learnt,
+  merge-trees-below t,
+  merge-trees.Post,
+  finish-reads.Asked,
+  finish-reads.Learnt,
+) (merge-entry-at t) merge-entry.Post
+merge-entry-sub-if1 t c =
+    omega (
+      arith,
+      (entry-trees-at
+          ((c .before .before .before .before .before .before .pre .1) .first)
+          (entry-heads ((c .before .before .before .before .before .before .pre .1) .first)
+          (c .before .before .before .label-at .ensures) (c .before .before .heads .ensures))),
+      (c .before .before .before .before .before .before .pre .1) .room,
+    )
+
+merge-entry-same-length : (t : ℕ) → merge-entry-lts.Need-same-length (
+  label-at-reads.Asked,
+  label-at-reads.Learnt,
+  heads-reads.Asked,
+  heads-reads.Learnt,
+  trees-at-reads.Asked,
+  trees-at-reads.Learnt,
+  copy-reads.Asked,
+  copy-reads.Learnt,
+  merge-trees-below t,
+  merge-trees.Post,
+  finish-reads.Asked,
+  finish-reads.Learnt,
+) (merge-entry-at t) merge-entry.Post
+merge-entry-same-length t c = search needs
 
 merge-entry-returns : (t : ℕ) → merge-entry-lts.Need-returns (
+  label-at-reads.Asked,
+  label-at-reads.Learnt,
+  heads-reads.Asked,
+  heads-reads.Learnt,
+  trees-at-reads.Asked,
+  trees-at-reads.Learnt,
   copy-reads.Asked,
   copy-reads.Learnt,
   merge-trees-below t,
@@ -151,11 +266,31 @@ merge-entry-returns : (t : ℕ) → merge-entry-lts.Need-returns (
   finish-reads.Learnt,
 ) (merge-entry-at t) merge-entry.Post
 merge-entry-returns t c =
-    entry-no-room (c .before .before .args .w .now) (c .before .before .args .i)
-    (c .before .before .args .ie) (c .before .before .args .j) (c .before .before .args .je)
-    (c .before .before .args .d) (c .before .before .args .stop) (omega arith)
+    entry-no-room {n = c .before .before .before .heads .result}
+    (c .before .before .before .before .before .before .before .args .one .to)
+    (c .before .before .before .before .before .before .before .args .other .from)
+    (c .before .before .before .before .before .before .before .args .other .to)
+    (c .before .before .before .before .before .before .before .args .room .from)
+    (c .before .before .before .before .before .before .before .args .room .to)
+    (entry-heads ((c .before .before .before .before .before .before .before .pre .1) .first)
+    (c .before .before .before .before .label-at .ensures)
+    (c .before .before .before .heads .ensures)) (omega arith)
+    (omega (
+      arith,
+      (entry-trees-at
+          ((c .before .before .before .before .before .before .before .pre .1) .first)
+          (entry-heads ((c .before .before .before .before .before .before .before .pre .1) .first)
+          (c .before .before .before .before .label-at .ensures)
+          (c .before .before .before .heads .ensures))),
+    ))
 
-merge-entry-add-copy : (t : ℕ) → merge-entry-lts.Need-add-copy (
+merge-entry-add-at : (t : ℕ) → merge-entry-lts.Need-add-at (
+  label-at-reads.Asked,
+  label-at-reads.Learnt,
+  heads-reads.Asked,
+  heads-reads.Learnt,
+  trees-at-reads.Asked,
+  trees-at-reads.Learnt,
   copy-reads.Asked,
   copy-reads.Learnt,
   merge-trees-below t,
@@ -163,14 +298,27 @@ merge-entry-add-copy : (t : ℕ) → merge-entry-lts.Need-add-copy (
   finish-reads.Asked,
   finish-reads.Learnt,
 ) (merge-entry-at t) merge-entry.Post
-merge-entry-add-copy t c =
+merge-entry-add-at t c =
     omega (
       arith,
-      (entry-places ((c .before .before .before .pre .1) .first)),
-      (entry-places ((c .before .before .before .pre .1) .second)),
+      (entry-places
+          ((c .before .before .before .before .before .before .before .pre .1) .first)),
+      (entry-places ((c .before .before .before .before .before .before .before .pre .1) .second)),
+      (entry-trees-at ((c .before .before .before .before .before .before .before .pre .1) .first)
+          (entry-heads ((c .before .before .before .before .before .before .before .pre .1) .first)
+          (c .before .before .before .before .label-at .ensures)
+          (c .before .before .before .heads .ensures))),
+      (c .before .before .before .before .before .before .before .pre .1) .area,
+      c .if1 .left,
     )
 
-merge-entry-add-copy-2 : (t : ℕ) → merge-entry-lts.Need-add-copy-2 (
+merge-entry-slice-read-tag : (t : ℕ) → merge-entry-lts.Need-slice-read-tag (
+  label-at-reads.Asked,
+  label-at-reads.Learnt,
+  heads-reads.Asked,
+  heads-reads.Learnt,
+  trees-at-reads.Asked,
+  trees-at-reads.Learnt,
   copy-reads.Asked,
   copy-reads.Learnt,
   merge-trees-below t,
@@ -178,14 +326,20 @@ merge-entry-add-copy-2 : (t : ℕ) → merge-entry-lts.Need-add-copy-2 (
   finish-reads.Asked,
   finish-reads.Learnt,
 ) (merge-entry-at t) merge-entry.Post
-merge-entry-add-copy-2 t c =
+merge-entry-slice-read-tag t c =
     omega (
       arith,
-      (entry-places ((c .before .before .before .pre .1) .first)),
-      (entry-places ((c .before .before .before .pre .1) .second)),
+      (entry-places
+          ((c .before .before .before .before .before .before .before .before .pre .1) .first)),
     )
 
-merge-entry-add-copy-3 : (t : ℕ) → merge-entry-lts.Need-add-copy-3 (
+merge-entry-add-t24 : (t : ℕ) → merge-entry-lts.Need-add-t24 (
+  label-at-reads.Asked,
+  label-at-reads.Learnt,
+  heads-reads.Asked,
+  heads-reads.Learnt,
+  trees-at-reads.Asked,
+  trees-at-reads.Learnt,
   copy-reads.Asked,
   copy-reads.Learnt,
   merge-trees-below t,
@@ -193,14 +347,80 @@ merge-entry-add-copy-3 : (t : ℕ) → merge-entry-lts.Need-add-copy-3 (
   finish-reads.Asked,
   finish-reads.Learnt,
 ) (merge-entry-at t) merge-entry.Post
-merge-entry-add-copy-3 t c =
+merge-entry-add-t24 t c =
     omega (
       arith,
-      (entry-places ((c .before .before .before .pre .1) .first)),
-      (entry-places ((c .before .before .before .pre .1) .second)),
+      (entry-places
+          ((c .before .before .before .before .before .before .before .before .pre .1) .first)),
+      (entry-places ((c .before .before .before .before .before .before .before .before .pre .1) .second)),
+      (entry-trees-at ((c .before .before .before .before .before .before .before .before .pre .1) .first)
+          (entry-heads ((c .before .before .before .before .before .before .before .before .pre .1) .first)
+          (c .before .before .before .before .before .label-at .ensures)
+          (c .before .before .before .before .heads .ensures))),
+      (c .before .before .before .before .before .before .before .before .pre .1) .area,
+      c .before .if1 .left,
+    )
+
+merge-entry-sub-finish : (t : ℕ) → merge-entry-lts.Need-sub-finish (
+  label-at-reads.Asked,
+  label-at-reads.Learnt,
+  heads-reads.Asked,
+  heads-reads.Learnt,
+  trees-at-reads.Asked,
+  trees-at-reads.Learnt,
+  copy-reads.Asked,
+  copy-reads.Learnt,
+  merge-trees-below t,
+  merge-trees.Post,
+  finish-reads.Asked,
+  finish-reads.Learnt,
+) (merge-entry-at t) merge-entry.Post
+merge-entry-sub-finish t c =
+    omega (
+      arith,
+      (entry-trees-at
+          ((c .before .before .before .before .before .before .before .before .pre .1) .first)
+          (entry-heads ((c .before .before .before .before .before .before .before .before .pre .1) .first)
+          (c .before .before .before .before .before .label-at .ensures)
+          (c .before .before .before .before .heads .ensures))),
+      (c .before .before .before .before .before .before .before .before .pre .1) .room,
+    )
+
+merge-entry-add-t24-2 : (t : ℕ) → merge-entry-lts.Need-add-t24-2 (
+  label-at-reads.Asked,
+  label-at-reads.Learnt,
+  heads-reads.Asked,
+  heads-reads.Learnt,
+  trees-at-reads.Asked,
+  trees-at-reads.Learnt,
+  copy-reads.Asked,
+  copy-reads.Learnt,
+  merge-trees-below t,
+  merge-trees.Post,
+  finish-reads.Asked,
+  finish-reads.Learnt,
+) (merge-entry-at t) merge-entry.Post
+merge-entry-add-t24-2 t c =
+    omega (
+      arith,
+      (entry-places
+          ((c .before .before .before .before .before .before .before .before .pre .1) .first)),
+      (entry-places ((c .before .before .before .before .before .before .before .before .pre .1) .second)),
+      (entry-trees-at ((c .before .before .before .before .before .before .before .before .pre .1) .first)
+          (entry-heads ((c .before .before .before .before .before .before .before .before .pre .1) .first)
+          (c .before .before .before .before .before .label-at .ensures)
+          (c .before .before .before .before .heads .ensures))),
+      (c .before .before .before .before .before .before .before .before .pre .1) .area,
+      c .before .if1 .left,
     )
 
 merge-entry-copy-requires : (t : ℕ) → merge-entry-lts.Need-copy-requires (
+  label-at-reads.Asked,
+  label-at-reads.Learnt,
+  heads-reads.Asked,
+  heads-reads.Learnt,
+  trees-at-reads.Asked,
+  trees-at-reads.Learnt,
   copy-reads.Asked,
   copy-reads.Learnt,
   merge-trees-below t,
@@ -211,59 +431,22 @@ merge-entry-copy-requires : (t : ℕ) → merge-entry-lts.Need-copy-requires (
 merge-entry-copy-requires t c κs =
     omega (
       arith,
-      (entry-places ((c .before .before .before .pre .1) .first)),
-      (entry-places ((c .before .before .before .pre .1) .second)),
-    )
-
-merge-entry-add-merge-trees : (t : ℕ) → merge-entry-lts.Need-add-merge-trees (
-  copy-reads.Asked,
-  copy-reads.Learnt,
-  merge-trees-below t,
-  merge-trees.Post,
-  finish-reads.Asked,
-  finish-reads.Learnt,
-) (merge-entry-at t) merge-entry.Post
-merge-entry-add-merge-trees t c =
-    omega (
-      arith,
       (entry-places
-          ((c .before .before .before .before .before .before .before .pre .1) .first)),
-      (entry-places ((c .before .before .before .before .before .before .before .pre .1) .second)),
-    )
-
-merge-entry-add-merge-trees-2 : (t : ℕ) → merge-entry-lts.Need-add-merge-trees-2 (
-  copy-reads.Asked,
-  copy-reads.Learnt,
-  merge-trees-below t,
-  merge-trees.Post,
-  finish-reads.Asked,
-  finish-reads.Learnt,
-) (merge-entry-at t) merge-entry.Post
-merge-entry-add-merge-trees-2 t c =
-    omega (
-      arith,
-      (entry-places
-          ((c .before .before .before .before .before .before .before .pre .1) .first)),
-      (entry-places ((c .before .before .before .before .before .before .before .pre .1) .second)),
-    )
-
-merge-entry-add-merge-trees-3 : (t : ℕ) → merge-entry-lts.Need-add-merge-trees-3 (
-  copy-reads.Asked,
-  copy-reads.Learnt,
-  merge-trees-below t,
-  merge-trees.Post,
-  finish-reads.Asked,
-  finish-reads.Learnt,
-) (merge-entry-at t) merge-entry.Post
-merge-entry-add-merge-trees-3 t c =
-    omega (
-      arith,
-      (entry-places
-          ((c .before .before .before .before .before .before .before .pre .1) .first)),
-      (entry-places ((c .before .before .before .before .before .before .before .pre .1) .second)),
+          ((c .before .before .before .before .before .before .before .before .before .pre .1) .first)),
+      (entry-places ((c .before .before .before .before .before .before .before .before .before .pre .1) .second)),
+      (entry-trees-at ((c .before .before .before .before .before .before .before .before .before .pre .1) .first)
+          (entry-heads ((c .before .before .before .before .before .before .before .before .before .pre .1) .first)
+          (c .before .before .before .before .before .before .label-at .ensures)
+          (c .before .before .before .before .before .heads .ensures))),
     )
 
 merge-entry-merge-trees-requires : (t : ℕ) → merge-entry-lts.Need-merge-trees-requires (
+  label-at-reads.Asked,
+  label-at-reads.Learnt,
+  heads-reads.Asked,
+  heads-reads.Learnt,
+  trees-at-reads.Asked,
+  trees-at-reads.Learnt,
   copy-reads.Asked,
   copy-reads.Learnt,
   merge-trees-below t,
@@ -274,15 +457,40 @@ merge-entry-merge-trees-requires : (t : ℕ) → merge-entry-lts.Need-merge-tree
 merge-entry-merge-trees-requires t c κs = (
   omega (
     arith,
-    c .before .before .before .before .before .before .before .pre .0,
-    (entry-places ((c .before .before .before .before .before .before .before .pre .1) .first)),
-    (entry-places ((c .before .before .before .before .before .before .before .pre .1) .second)),
+    c .before .before .before .before .before .before .before .before .before .before .before .before .before .pre .0,
+    (entry-places ((c .before .before .before .before .before .before .before .before .before .before .before .before .before .pre .1) .first)),
+    (entry-places ((c .before .before .before .before .before .before .before .before .before .before .before .before .before .pre .1) .second)),
+    (entry-trees-at ((c .before .before .before .before .before .before .before .before .before .before .before .before .before .pre .1) .first)
+        (entry-heads ((c .before .before .before .before .before .before .before .before .before .before .before .before .before .pre .1) .first)
+        (c .before .before .before .before .before .before .before .before .before .before .label-at .ensures)
+        (c .before .before .before .before .before .before .before .before .before .heads .ensures))),
+    (entry-trees-at ((c .before .before .before .before .before .before .before .before .before .before .before .before .before .pre .1) .second)
+        (c .before .before .before .before .before .before .before .trees-at .ensures)),
   ),
-  ready-arrays (c .before .before .before .before .before .before .before .pre .1) (omega arith)
+  ready-arrays
+      (entry-heads ((c .before .before .before .before .before .before .before .before .before .before .before .before .before .pre .1) .first)
+      (c .before .before .before .before .before .before .before .before .before .before .label-at .ensures)
+      (c .before .before .before .before .before .before .before .before .before .heads .ensures))
+      (omega arith) (c .before .before .before .before .before .before .before .trees-at .ensures)
+      refl (c .before .before .before .before .before .before .before .before .before .before .before .before .before .pre .1)
+      (omega (
+        arith,
+        (entry-trees-at
+            ((c .before .before .before .before .before .before .before .before .before .before .before .before .before .pre .1) .first)
+            (entry-heads ((c .before .before .before .before .before .before .before .before .before .before .before .before .before .pre .1) .first)
+            (c .before .before .before .before .before .before .before .before .before .before .label-at .ensures)
+            (c .before .before .before .before .before .before .before .before .before .heads .ensures))),
+      ))
       (c .before .before .before .copy .ensures) (c .before .before .before .copy .kept .0),
 )
 
-merge-entry-add-finish : (t : ℕ) → merge-entry-lts.Need-add-finish (
+merge-entry-sub-finish-2 : (t : ℕ) → merge-entry-lts.Need-sub-finish-2 (
+  label-at-reads.Asked,
+  label-at-reads.Learnt,
+  heads-reads.Asked,
+  heads-reads.Learnt,
+  trees-at-reads.Asked,
+  trees-at-reads.Learnt,
   copy-reads.Asked,
   copy-reads.Learnt,
   merge-trees-below t,
@@ -290,15 +498,24 @@ merge-entry-add-finish : (t : ℕ) → merge-entry-lts.Need-add-finish (
   finish-reads.Asked,
   finish-reads.Learnt,
 ) (merge-entry-at t) merge-entry.Post
-merge-entry-add-finish t c =
+merge-entry-sub-finish-2 t c =
     omega (
       arith,
-      (entry-places
-          ((c .before .before .before .before .before .before .before .before .before .before .before .pre .1) .first)),
-      (entry-places ((c .before .before .before .before .before .before .before .before .before .before .before .pre .1) .second)),
+      (entry-trees-at
+          ((c .before .before .before .before .before .before .before .before .before .before .before .before .before .before .before .before .before .pre .1) .first)
+          (entry-heads ((c .before .before .before .before .before .before .before .before .before .before .before .before .before .before .before .before .before .pre .1) .first)
+          (c .before .before .before .before .before .before .before .before .before .before .before .before .before .before .label-at .ensures)
+          (c .before .before .before .before .before .before .before .before .before .before .before .before .before .heads .ensures))),
+      (c .before .before .before .before .before .before .before .before .before .before .before .before .before .before .before .before .before .pre .1) .room,
     )
 
 merge-entry-finish-requires : (t : ℕ) → merge-entry-lts.Need-finish-requires (
+  label-at-reads.Asked,
+  label-at-reads.Learnt,
+  heads-reads.Asked,
+  heads-reads.Learnt,
+  trees-at-reads.Asked,
+  trees-at-reads.Learnt,
   copy-reads.Asked,
   copy-reads.Learnt,
   merge-trees-below t,
@@ -307,8 +524,21 @@ merge-entry-finish-requires : (t : ℕ) → merge-entry-lts.Need-finish-requires
   finish-reads.Learnt,
 ) (merge-entry-at t) merge-entry.Post
 merge-entry-finish-requires t c κs = (
-  array-finishable (c .before .before .before .before .before .before .before .before .before .before .before .pre .1)
-      (omega arith) (c .before .before .before .before .before .before .before .copy .ensures)
+  array-finishable (entry-heads
+      ((c .before .before .before .before .before .before .before .before .before .before .before .before .before .before .before .before .before .pre .1) .first)
+      (c .before .before .before .before .before .before .before .before .before .before .before .before .before .before .label-at .ensures)
+      (c .before .before .before .before .before .before .before .before .before .before .before .before .before .heads .ensures))
+      (omega arith) (c .before .before .before .before .before .before .before .before .before .before .before .trees-at .ensures)
+      refl (c .before .before .before .before .before .before .before .before .before .before .before .before .before .before .before .before .before .pre .1)
+      (omega (
+        arith,
+        (entry-trees-at
+            ((c .before .before .before .before .before .before .before .before .before .before .before .before .before .before .before .before .before .pre .1) .first)
+            (entry-heads ((c .before .before .before .before .before .before .before .before .before .before .before .before .before .before .before .before .before .pre .1) .first)
+            (c .before .before .before .before .before .before .before .before .before .before .before .before .before .before .label-at .ensures)
+            (c .before .before .before .before .before .before .before .before .before .before .before .before .before .heads .ensures))),
+      ))
+      (c .before .before .before .before .before .before .before .copy .ensures)
       (c .before .before .before .before .before .before .before .copy .kept .0)
       (c .before .before .before .merge-trees .ensures)
       (c .before .before .before .merge-trees .kept .0 ∙
@@ -317,6 +547,12 @@ merge-entry-finish-requires t c κs = (
 )
 
 merge-entry-finish-requires-2 : (t : ℕ) → merge-entry-lts.Need-finish-requires-2 (
+  label-at-reads.Asked,
+  label-at-reads.Learnt,
+  heads-reads.Asked,
+  heads-reads.Learnt,
+  trees-at-reads.Asked,
+  trees-at-reads.Learnt,
   copy-reads.Asked,
   copy-reads.Learnt,
   merge-trees-below t,
@@ -325,8 +561,21 @@ merge-entry-finish-requires-2 : (t : ℕ) → merge-entry-lts.Need-finish-requir
   finish-reads.Learnt,
 ) (merge-entry-at t) merge-entry.Post
 merge-entry-finish-requires-2 t c κs = (
-  entry-finishable (c .before .before .before .before .before .before .before .before .before .before .before .before .before .before .before .pre .1)
-      (omega arith) (c .before .before .before .before .before .before .before .before .before .before .before .copy .ensures)
+  entry-finishable (entry-heads
+      ((c .before .before .before .before .before .before .before .before .before .before .before .before .before .before .before .before .before .before .before .before .before .pre .1) .first)
+      (c .before .before .before .before .before .before .before .before .before .before .before .before .before .before .before .before .before .before .label-at .ensures)
+      (c .before .before .before .before .before .before .before .before .before .before .before .before .before .before .before .before .before .heads .ensures))
+      (omega arith) (c .before .before .before .before .before .before .before .before .before .before .before .before .before .before .before .trees-at .ensures)
+      refl (c .before .before .before .before .before .before .before .before .before .before .before .before .before .before .before .before .before .before .before .before .before .pre .1)
+      (omega (
+        arith,
+        (entry-trees-at
+            ((c .before .before .before .before .before .before .before .before .before .before .before .before .before .before .before .before .before .before .before .before .before .pre .1) .first)
+            (entry-heads ((c .before .before .before .before .before .before .before .before .before .before .before .before .before .before .before .before .before .before .before .before .before .pre .1) .first)
+            (c .before .before .before .before .before .before .before .before .before .before .before .before .before .before .before .before .before .before .label-at .ensures)
+            (c .before .before .before .before .before .before .before .before .before .before .before .before .before .before .before .before .before .heads .ensures))),
+      ))
+      (c .before .before .before .before .before .before .before .before .before .before .before .copy .ensures)
       (c .before .before .before .before .before .before .before .before .before .before .before .copy .kept .0)
       (c .before .before .before .before .before .before .before .merge-trees .ensures)
       (c .before .before .before .finish .ensures)
@@ -336,7 +585,13 @@ merge-entry-finish-requires-2 t c κs = (
   omega arith,
 )
 
-merge-entry-same-length : (t : ℕ) → merge-entry-lts.Need-same-length (
+merge-entry-same-length-2 : (t : ℕ) → merge-entry-lts.Need-same-length-2 (
+  label-at-reads.Asked,
+  label-at-reads.Learnt,
+  heads-reads.Asked,
+  heads-reads.Learnt,
+  trees-at-reads.Asked,
+  trees-at-reads.Learnt,
   copy-reads.Asked,
   copy-reads.Learnt,
   merge-trees-below t,
@@ -344,9 +599,15 @@ merge-entry-same-length : (t : ℕ) → merge-entry-lts.Need-same-length (
   finish-reads.Asked,
   finish-reads.Learnt,
 ) (merge-entry-at t) merge-entry.Post
-merge-entry-same-length t c = search needs
+merge-entry-same-length-2 t c = search needs
 
 merge-entry-returns-2 : (t : ℕ) → merge-entry-lts.Need-returns-2 (
+  label-at-reads.Asked,
+  label-at-reads.Learnt,
+  heads-reads.Asked,
+  heads-reads.Learnt,
+  trees-at-reads.Asked,
+  trees-at-reads.Learnt,
   copy-reads.Asked,
   copy-reads.Learnt,
   merge-trees-below t,
@@ -355,8 +616,20 @@ merge-entry-returns-2 : (t : ℕ) → merge-entry-lts.Need-returns-2 (
   finish-reads.Learnt,
 ) (merge-entry-at t) merge-entry.Post
 merge-entry-returns-2 t c =
-    entry-done (c .before .before .before .before .before .before .before .before .before .before .before .before .before .before .before .before .before .before .pre .1)
-    (omega arith) (c .before .before .before .before .before .before .before .before .before .before .before .before .before .before .copy .ensures)
+    entry-done (entry-heads ((c .before .before .before .before .before .before .before .before .before .before .before .before .before .before .before .before .before .before .before .before .before .before .before .before .pre .1) .first)
+    (c .before .before .before .before .before .before .before .before .before .before .before .before .before .before .before .before .before .before .before .before .before .label-at .ensures)
+    (c .before .before .before .before .before .before .before .before .before .before .before .before .before .before .before .before .before .before .before .before .heads .ensures))
+    (omega arith) (c .before .before .before .before .before .before .before .before .before .before .before .before .before .before .before .before .before .before .trees-at .ensures)
+    refl (c .before .before .before .before .before .before .before .before .before .before .before .before .before .before .before .before .before .before .before .before .before .before .before .before .pre .1)
+    (omega (
+      arith,
+      (entry-trees-at
+          ((c .before .before .before .before .before .before .before .before .before .before .before .before .before .before .before .before .before .before .before .before .before .before .before .before .pre .1) .first)
+          (entry-heads ((c .before .before .before .before .before .before .before .before .before .before .before .before .before .before .before .before .before .before .before .before .before .before .before .before .pre .1) .first)
+          (c .before .before .before .before .before .before .before .before .before .before .before .before .before .before .before .before .before .before .before .before .before .label-at .ensures)
+          (c .before .before .before .before .before .before .before .before .before .before .before .before .before .before .before .before .before .before .before .before .heads .ensures))),
+    ))
+    (c .before .before .before .before .before .before .before .before .before .before .before .before .before .before .copy .ensures)
     (c .before .before .before .before .before .before .before .before .before .before .before .before .before .before .copy .kept .0)
     (c .before .before .before .before .before .before .before .before .before .before .merge-trees .ensures)
     (c .before .before .before .before .before .before .finish .ensures)
@@ -490,13 +763,15 @@ merge-first-returns-3 t c =
     (c .before .before .before .before .if2 .left) (c .before .before .merge-entry .ensures)
 
 abbrev merge-labels-Inv-loop : merge-labels-lts.InvT-loop
-merge-labels-Inv-loop w₀ i ie j je d stop p₀ q₀ at₀ w p q at =
-    (i ≤ p) × (j ≤ q) × (length w ≡ length w₀) × MergeReady labelsBytes w p ie q je at stop
-    × ((u : List ℕ) (r : Out) → Merged labelsBytes mergeTwoL w u p ie q je at stop r → Merged
-    labelsBytes mergeTwoL w₀ u i ie j je d stop r)
+merge-labels-Inv-loop work₀ end end2 stop p₀ q₀ at₀ work p q at =
+    (p₀ ≤ p) × (q₀ ≤ q) × (length work ≡ length work₀) × MergeReady labelsBytes work (span p end)
+    (span q end2) (span at stop)
+    × ((u : List ℕ) (r : Out) → Merged labelsBytes mergeTwoL work u (span p end) (span q end2)
+    (span at stop) r
+    → Merged labelsBytes mergeTwoL work₀ u (span p₀ end) (span q₀ end2) (span at₀ stop) r)
 
 abbrev merge-labels-μ-loop : merge-labels-lts.MeasureT-loop
-merge-labels-μ-loop w₀ i ie j je d stop p₀ q₀ at₀ w p q at = (ie - p) + (je - q)
+merge-labels-μ-loop work₀ end end2 stop p₀ q₀ at₀ work p q at = (end - p) + (end2 - q)
 
 merge-labels-loop-holds : (t : ℕ) → merge-labels-lts.Need-loop-holds (
   copy-reads.Asked,
@@ -555,11 +830,12 @@ merge-labels-returns : (t : ℕ) → merge-labels-lts.Need-returns (
 merge-labels-returns t c =
     c .before .before .before .before .before .before .loop .inv .4
     (c .before .before .copy .last .0) (c .before .before .copy .result)
-    (first-copied (labels-second-none (c .before .before .before .before .before .before .loop .w)
+    (first-copied (labels-second-none
+    (c .before .before .before .before .before .before .loop .work)
     (c .before .before .before .before .before .before .loop .p)
-    (c .before .before .before .before .before .before .before .before .args .ie)
+    (c .before .before .before .before .before .before .before .before .args .one .to)
     (c .before .before .before .before .before .before .loop .q)
-    (c .before .before .before .before .before .before .before .before .args .je)
+    (c .before .before .before .before .before .before .before .before .args .other .to)
     (c .before .before .before .before .if1 .taken)) (c .before .before .copy .ensures))
 
 merge-labels-field-end-requires : (t : ℕ) → merge-labels-lts.Need-field-end-requires (
@@ -672,7 +948,7 @@ merge-labels-merge-first-requires t c κs = (
       (c .before .before .before .before .before .before .before .before .before .before .before .loop .inv .3),
 )
 
-merge-labels-enum-known-one : (t : ℕ) → merge-labels-lts.Need-enum-known-one (
+merge-labels-enum-known-first : (t : ℕ) → merge-labels-lts.Need-enum-known-first (
   copy-reads.Asked,
   copy-reads.Learnt,
   field-end-reads.Asked,
@@ -684,7 +960,7 @@ merge-labels-enum-known-one : (t : ℕ) → merge-labels-lts.Need-enum-known-one
   choose-reads.Asked,
   choose-reads.Learnt,
 ) (merge-labels-at t) merge-labels.Post merge-labels-Inv-loop merge-labels-μ-loop
-merge-labels-enum-known-one t c = search needs
+merge-labels-enum-known-first t c = search needs
 
 merge-labels-enum-told : (t : ℕ) → merge-labels-lts.Need-enum-told (
   copy-reads.Asked,
@@ -786,14 +1062,14 @@ merge-labels-loop-less t c =
     (c .before .before .before .before .before .before .before .before .before .before .before .before .before .before .before .before .before .if1 .left)
     (c .before .before .before .before .before .before .before .before .before .before .before .before .before .field-end2 .ensures))
     in
-    fingers-fall (c .before .before .before .before .before .before .before .before .before .before .before .label-at .result)
+    places-fall (c .before .before .before .before .before .before .before .before .before .before .before .label-at .result)
     (c .before .before .before .before .before .before .before .before .before .label-at2 .result)
     (c .before .before .before .before .before .before .before .before .before .before .before .before .before .before .before .before .before .before .before .loop .p)
     (c .before .before .before .before .before .before .before .before .before .before .before .before .before .before .before .field-end .result)
-    (c .before .before .before .before .before .before .before .before .before .before .before .before .before .before .before .before .before .before .before .before .before .args .ie)
+    (c .before .before .before .before .before .before .before .before .before .before .before .before .before .before .before .before .before .before .before .before .before .args .one .to)
     (c .before .before .before .before .before .before .before .before .before .before .before .before .before .before .before .before .before .before .before .loop .q)
     (c .before .before .before .before .before .before .before .before .before .before .before .before .before .field-end2 .result)
-    (c .before .before .before .before .before .before .before .before .before .before .before .before .before .before .before .before .before .before .before .before .before .args .je)
+    (c .before .before .before .before .before .before .before .before .before .before .before .before .before .before .before .before .before .before .before .before .before .args .other .to)
     (omega arith) (omega arith) (a .1) (b .1) (c .before .choose .ensures) (c .choose2 .ensures)
 
 merge-labels-loop-again : (t : ℕ) → merge-labels-lts.Need-loop-again (
@@ -809,7 +1085,7 @@ merge-labels-loop-again : (t : ℕ) → merge-labels-lts.Need-loop-again (
   choose-reads.Learnt,
 ) (merge-labels-at t) merge-labels.Post merge-labels-Inv-loop merge-labels-μ-loop
 merge-labels-loop-again t c =
-    let f = (fingers (c .before .before .before .before .before .before .before .before .before .before .before .label-at .result)
+    let f = (places-move (c .before .before .before .before .before .before .before .before .before .before .before .label-at .result)
     (c .before .before .before .before .before .before .before .before .before .label-at2 .result)
     (c .before .before .before .before .before .before .before .before .before .before .before .before .before .before .before .before .before .before .before .loop .p)
     (c .before .before .before .before .before .before .before .before .before .before .before .before .before .before .before .field-end .result)
@@ -844,7 +1120,7 @@ merge-labels-loop-again t c =
           (c .before .choose .ensures) (c .choose2 .ensures)
           (c .before .before .before .before .before .before .before .merge-first .ensures))
           (c .before .before .before .before .before .before .before .before .before .before .before .before .before .before .before .before .before .before .before .loop .inv .3)
-          (c .before .before .before .one .given .1)
+          (c .before .before .before .first .given .1)
           (c .before .before .before .before .before .before .before .merge-first .kept .0),
       λ u r h. c .before .before .before .before .before .before .before .before .before .before .before .before .before .before .before .before .before .before .before .loop .inv .4
           u r (turn-next (labels-turn
@@ -857,7 +1133,7 @@ merge-labels-loop-again t c =
           (c .before .choose .ensures) (c .choose2 .ensures)
           (c .before .before .before .before .before .before .before .merge-first .ensures))
           (c .before .before .before .before .before .before .before .before .before .before .before .before .before .before .before .before .before .before .before .loop .inv .3)
-          (c .before .before .before .one .given .1) h),
+          (c .before .before .before .first .given .1) h),
     )
 
 merge-labels-copy-requires-2 : (t : ℕ) → merge-labels-lts.Need-copy-requires-2 (
@@ -903,11 +1179,11 @@ merge-labels-returns-3 : (t : ℕ) → merge-labels-lts.Need-returns-3 (
 merge-labels-returns-3 t c =
     c .before .before .before .before .before .loop .inv .4 (c .before .before .copy2 .last .0)
     (c .before .before .copy2 .result)
-    (second-copied (labels-first-none (c .before .before .before .before .before .loop .w)
+    (second-copied (labels-first-none (c .before .before .before .before .before .loop .work)
     (c .before .before .before .before .before .loop .p)
-    (c .before .before .before .before .before .before .before .args .ie)
+    (c .before .before .before .before .before .before .before .args .one .to)
     (c .before .before .before .before .before .loop .q)
-    (c .before .before .before .before .before .before .before .args .je)
+    (c .before .before .before .before .before .before .before .args .other .to)
     (c .before .before .before .before .loop-test .left)) (c .before .before .copy2 .ensures))
 
 merge-node-sub-if1 : (t : ℕ) → merge-node-lts.Need-sub-if1 (
@@ -933,11 +1209,13 @@ merge-node-returns : (t : ℕ) → merge-node-lts.Need-returns (
   finish-reads.Learnt,
 ) (merge-node-at t) merge-node.Post
 merge-node-returns t c =
-    tree-no-room (c .before .before .args .w .now) (c .before .before .args .s)
-    (c .before .before .args .se) (c .before .before .args .t) (c .before .before .args .te)
-    (c .before .before .args .d) (c .before .before .args .stop) (omega arith)
+    tree-no-room (c .before .before .before .args .work .now)
+    (c .before .before .before .args .one .from) (c .before .before .before .args .one .to)
+    (c .before .before .before .args .other .from) (c .before .before .before .args .other .to)
+    (c .before .before .before .args .room .from) (c .before .before .before .args .room .to)
+    (omega arith)
 
-merge-node-add-field-end : (t : ℕ) → merge-node-lts.Need-add-field-end (
+merge-node-add-s : (t : ℕ) → merge-node-lts.Need-add-s (
   field-end-reads.Asked,
   field-end-reads.Learnt,
   merge-root-reads.Asked,
@@ -947,11 +1225,46 @@ merge-node-add-field-end : (t : ℕ) → merge-node-lts.Need-add-field-end (
   finish-reads.Asked,
   finish-reads.Learnt,
 ) (merge-node-at t) merge-node.Post
-merge-node-add-field-end t c =
+merge-node-add-s t c =
     omega (
       arith,
-      (tree-places ((c .before .before .before .pre .1) .first) refl),
-      (tree-places ((c .before .before .before .pre .1) .second) refl),
+      (tree-places ((c .before .before .before .before .pre .1) .first) refl),
+      (tree-places ((c .before .before .before .before .pre .1) .second) refl),
+    )
+
+merge-node-add-t : (t : ℕ) → merge-node-lts.Need-add-t (
+  field-end-reads.Asked,
+  field-end-reads.Learnt,
+  merge-root-reads.Asked,
+  merge-root-reads.Learnt,
+  merge-labels-below t,
+  merge-labels.Post,
+  finish-reads.Asked,
+  finish-reads.Learnt,
+) (merge-node-at t) merge-node.Post
+merge-node-add-t t c =
+    omega (
+      arith,
+      (tree-places ((c .before .before .before .before .before .pre .1) .first) refl),
+      (tree-places ((c .before .before .before .before .before .pre .1) .second) refl),
+    )
+
+merge-node-add-d : (t : ℕ) → merge-node-lts.Need-add-d (
+  field-end-reads.Asked,
+  field-end-reads.Learnt,
+  merge-root-reads.Asked,
+  merge-root-reads.Learnt,
+  merge-labels-below t,
+  merge-labels.Post,
+  finish-reads.Asked,
+  finish-reads.Learnt,
+) (merge-node-at t) merge-node.Post
+merge-node-add-d t c =
+    omega (
+      arith,
+      (tree-places ((c .before .before .before .before .before .before .pre .1) .first)
+          refl),
+      (tree-places ((c .before .before .before .before .before .before .pre .1) .second) refl),
     )
 
 merge-node-field-end-requires : (t : ℕ) → merge-node-lts.Need-field-end-requires (
@@ -965,23 +1278,10 @@ merge-node-field-end-requires : (t : ℕ) → merge-node-lts.Need-field-end-requ
   finish-reads.Learnt,
 ) (merge-node-at t) merge-node.Post
 merge-node-field-end-requires t c κs =
-    omega (arith, (tree-places ((c .before .before .before .pre .1) .first) refl))
-
-merge-node-add-field-end-2 : (t : ℕ) → merge-node-lts.Need-add-field-end-2 (
-  field-end-reads.Asked,
-  field-end-reads.Learnt,
-  merge-root-reads.Asked,
-  merge-root-reads.Learnt,
-  merge-labels-below t,
-  merge-labels.Post,
-  finish-reads.Asked,
-  finish-reads.Learnt,
-) (merge-node-at t) merge-node.Post
-merge-node-add-field-end-2 t c =
     omega (
       arith,
-      (tree-places ((c .before .before .before .before .before .pre .1) .first) refl),
-      (tree-places ((c .before .before .before .before .before .pre .1) .second) refl),
+      (tree-places
+          ((c .before .before .before .before .before .before .before .pre .1) .first) refl),
     )
 
 merge-node-field-end-requires-2 : (t : ℕ) → merge-node-lts.Need-field-end-requires-2 (
@@ -995,62 +1295,10 @@ merge-node-field-end-requires-2 : (t : ℕ) → merge-node-lts.Need-field-end-re
   finish-reads.Learnt,
 ) (merge-node-at t) merge-node.Post
 merge-node-field-end-requires-2 t c κs =
-    omega (arith, (tree-places ((c .before .before .before .before .before .pre .1) .second) refl))
-
-merge-node-add-merge-root : (t : ℕ) → merge-node-lts.Need-add-merge-root (
-  field-end-reads.Asked,
-  field-end-reads.Learnt,
-  merge-root-reads.Asked,
-  merge-root-reads.Learnt,
-  merge-labels-below t,
-  merge-labels.Post,
-  finish-reads.Asked,
-  finish-reads.Learnt,
-) (merge-node-at t) merge-node.Post
-merge-node-add-merge-root t c =
     omega (
       arith,
       (tree-places
-          ((c .before .before .before .before .before .before .before .pre .1) .first) refl),
-      (tree-places ((c .before .before .before .before .before .before .before .pre .1) .second)
-          refl),
-    )
-
-merge-node-add-merge-root-2 : (t : ℕ) → merge-node-lts.Need-add-merge-root-2 (
-  field-end-reads.Asked,
-  field-end-reads.Learnt,
-  merge-root-reads.Asked,
-  merge-root-reads.Learnt,
-  merge-labels-below t,
-  merge-labels.Post,
-  finish-reads.Asked,
-  finish-reads.Learnt,
-) (merge-node-at t) merge-node.Post
-merge-node-add-merge-root-2 t c =
-    omega (
-      arith,
-      (tree-places
-          ((c .before .before .before .before .before .before .before .pre .1) .first) refl),
-      (tree-places ((c .before .before .before .before .before .before .before .pre .1) .second)
-          refl),
-    )
-
-merge-node-add-merge-root-3 : (t : ℕ) → merge-node-lts.Need-add-merge-root-3 (
-  field-end-reads.Asked,
-  field-end-reads.Learnt,
-  merge-root-reads.Asked,
-  merge-root-reads.Learnt,
-  merge-labels-below t,
-  merge-labels.Post,
-  finish-reads.Asked,
-  finish-reads.Learnt,
-) (merge-node-at t) merge-node.Post
-merge-node-add-merge-root-3 t c =
-    omega (
-      arith,
-      (tree-places
-          ((c .before .before .before .before .before .before .before .pre .1) .first) refl),
-      (tree-places ((c .before .before .before .before .before .before .before .pre .1) .second)
+          ((c .before .before .before .before .before .before .before .before .before .pre .1) .second)
           refl),
     )
 
@@ -1065,7 +1313,7 @@ merge-node-merge-root-requires : (t : ℕ) → merge-node-lts.Need-merge-root-re
   finish-reads.Learnt,
 ) (merge-node-at t) merge-node.Post
 merge-node-merge-root-requires t c κs =
-    ready-root (c .before .before .before .before .before .before .before .pre .1)
+    ready-root (c .before .before .before .before .before .before .before .before .before .before .before .pre .1)
     (c .before .before .before .field-end .ensures) (c .before .field-end2 .ensures) (omega arith)
 
 merge-node-enum-known-root : (t : ℕ) → merge-node-lts.Need-enum-known-root (
@@ -1115,7 +1363,7 @@ merge-node-returns-2 : (t : ℕ) → merge-node-lts.Need-returns-2 (
   finish-reads.Learnt,
 ) (merge-node-at t) merge-node.Post
 merge-node-returns-2 t c =
-    tree-fail (c .before .before .before .before .before .before .before .before .before .before .before .before .pre .1)
+    tree-fail (c .before .before .before .before .before .before .before .before .before .before .before .before .before .before .before .before .pre .1)
     (c .before .before .before .before .before .before .before .before .field-end .ensures)
     (c .before .before .before .before .before .before .field-end2 .ensures) (omega arith)
     (c .before .before .before .before .merge-root .ensures) (c .enum-told .given .1)
@@ -1133,13 +1381,13 @@ merge-node-merge-labels-requires : (t : ℕ) → merge-node-lts.Need-merge-label
 merge-node-merge-labels-requires t c κs = (
   omega (
     arith,
-    c .before .before .before .before .before .before .before .before .before .before .before .before .before .before .pre .0,
-    tree-places ((c .before .before .before .before .before .before .before .before .before .before .before .before .before .before .pre .1) .first)
+    c .before .before .before .before .before .before .before .before .before .before .before .before .before .before .before .before .before .before .pre .0,
+    tree-places ((c .before .before .before .before .before .before .before .before .before .before .before .before .before .before .before .before .before .before .pre .1) .first)
         (c .before .before .before .before .before .before .before .before .before .before .field-end .ensures),
-    tree-places ((c .before .before .before .before .before .before .before .before .before .before .before .before .before .before .pre .1) .second)
+    tree-places ((c .before .before .before .before .before .before .before .before .before .before .before .before .before .before .before .before .before .before .pre .1) .second)
         (c .before .before .before .before .before .before .before .before .field-end2 .ensures),
   ),
-  ready-labels (c .before .before .before .before .before .before .before .before .before .before .before .before .before .before .pre .1)
+  ready-labels (c .before .before .before .before .before .before .before .before .before .before .before .before .before .before .before .before .before .before .pre .1)
       (c .before .before .before .before .before .before .before .before .before .before .field-end .ensures)
       (c .before .before .before .before .before .before .before .before .field-end2 .ensures)
       (omega arith) (c .before .before .before .before .before .before .merge-root .ensures)
@@ -1158,7 +1406,7 @@ merge-node-finish-requires : (t : ℕ) → merge-node-lts.Need-finish-requires (
   finish-reads.Learnt,
 ) (merge-node-at t) merge-node.Post
 merge-node-finish-requires t c κs = (
-  tree-finishable (c .before .before .before .before .before .before .before .before .before .before .before .before .before .before .before .before .before .before .pre .1)
+  tree-finishable (c .before .before .before .before .before .before .before .before .before .before .before .before .before .before .before .before .before .before .before .before .before .before .pre .1)
       (c .before .before .before .before .before .before .before .before .before .before .before .before .before .before .field-end .ensures)
       (c .before .before .before .before .before .before .before .before .before .before .before .before .field-end2 .ensures)
       (omega arith) (c .before .before .before .before .before .before .before .before .before .before .merge-root .ensures)
@@ -1192,7 +1440,7 @@ merge-node-returns-3 : (t : ℕ) → merge-node-lts.Need-returns-3 (
   finish-reads.Learnt,
 ) (merge-node-at t) merge-node.Post
 merge-node-returns-3 t c =
-    tree-done (c .before .before .before .before .before .before .before .before .before .before .before .before .before .before .before .before .before .before .before .before .before .pre .1)
+    tree-done (c .before .before .before .before .before .before .before .before .before .before .before .before .before .before .before .before .before .before .before .before .before .before .before .before .before .pre .1)
     (c .before .before .before .before .before .before .before .before .before .before .before .before .before .before .before .before .before .field-end .ensures)
     (c .before .before .before .before .before .before .before .before .before .before .before .before .before .before .before .field-end2 .ensures)
     (omega arith) (c .before .before .before .before .before .before .before .before .before .before .before .before .before .merge-root .ensures)
@@ -1201,13 +1449,15 @@ merge-node-returns-3 t c =
     (c .before .before .finish .ensures)
 
 abbrev merge-trees-Inv-loop : merge-trees-lts.InvT-loop
-merge-trees-Inv-loop w₀ i ie j je d stop a₀ b₀ at₀ w a b at =
-    (i ≤ a) × (j ≤ b) × (length w ≡ length w₀) × MergeReady treesBytes w a ie b je at stop
-    × ((u : List ℕ) (r : Out) → Merged treesBytes mergeTwoA w u a ie b je at stop r → Merged
-    treesBytes mergeTwoA w₀ u i ie j je d stop r)
+merge-trees-Inv-loop work₀ end end2 stop a₀ b₀ at₀ work a b at =
+    (a₀ ≤ a) × (b₀ ≤ b) × (length work ≡ length work₀) × MergeReady treesBytes work (span a end)
+    (span b end2) (span at stop)
+    × ((u : List ℕ) (r : Out) → Merged treesBytes mergeTwoA work u (span a end) (span b end2)
+    (span at stop) r
+    → Merged treesBytes mergeTwoA work₀ u (span a₀ end) (span b₀ end2) (span at₀ stop) r)
 
 abbrev merge-trees-μ-loop : merge-trees-lts.MeasureT-loop
-merge-trees-μ-loop w₀ i ie j je d stop a₀ b₀ at₀ w a b at = ie - a
+merge-trees-μ-loop work₀ end end2 stop a₀ b₀ at₀ work a b at = end - a
 
 merge-trees-loop-holds : (t : ℕ) → merge-trees-lts.Need-loop-holds (
   copy-reads.Asked,
@@ -1250,11 +1500,12 @@ merge-trees-returns : (t : ℕ) → merge-trees-lts.Need-returns (
 merge-trees-returns t c =
     c .before .before .before .before .before .before .loop .inv .4
     (c .before .before .copy .last .0) (c .before .before .copy .result)
-    (first-copied (trees-second-none (c .before .before .before .before .before .before .loop .w)
+    (first-copied (trees-second-none
+    (c .before .before .before .before .before .before .loop .work)
     (c .before .before .before .before .before .before .loop .a)
-    (c .before .before .before .before .before .before .before .before .args .ie)
+    (c .before .before .before .before .before .before .before .before .args .one .to)
     (c .before .before .before .before .before .before .loop .b)
-    (c .before .before .before .before .before .before .before .before .args .je)
+    (c .before .before .before .before .before .before .before .before .args .other .to)
     (c .before .before .before .before .if1 .taken)) (c .before .before .copy .ensures))
 
 merge-trees-field-end-requires : (t : ℕ) → merge-trees-lts.Need-field-end-requires (
@@ -1311,7 +1562,7 @@ merge-trees-merge-node-requires t c κs = (
       (c .before .before .before .before .before .before .before .loop .inv .3),
 )
 
-merge-trees-enum-known-one : (t : ℕ) → merge-trees-lts.Need-enum-known-one (
+merge-trees-enum-known-first : (t : ℕ) → merge-trees-lts.Need-enum-known-first (
   copy-reads.Asked,
   copy-reads.Learnt,
   field-end-reads.Asked,
@@ -1319,7 +1570,7 @@ merge-trees-enum-known-one : (t : ℕ) → merge-trees-lts.Need-enum-known-one (
   merge-node-below t,
   merge-node.Post,
 ) (merge-trees-at t) merge-trees.Post merge-trees-Inv-loop merge-trees-μ-loop
-merge-trees-enum-known-one t c = search needs
+merge-trees-enum-known-first t c = search needs
 
 merge-trees-enum-told : (t : ℕ) → merge-trees-lts.Need-enum-told (
   copy-reads.Asked,
@@ -1406,7 +1657,7 @@ merge-trees-loop-again t c = (
       (c .before .before .before .before .before .before .before .before .before .before .before .if1 .left)
       (c .before .before .before .before .before .merge-node .ensures))
       (c .before .before .before .before .before .before .before .before .before .before .before .before .before .loop .inv .3)
-      (c .before .one .given .1) (c .before .before .before .before .before .merge-node .kept .0),
+      (c .before .first .given .1) (c .before .before .before .before .before .merge-node .kept .0),
   λ u r h. c .before .before .before .before .before .before .before .before .before .before .before .before .before .loop .inv .4
       u r (turn-next (trees-turn
       (c .before .before .before .before .before .before .before .before .before .field-end .ensures)
@@ -1415,7 +1666,7 @@ merge-trees-loop-again t c = (
       (c .before .before .before .before .before .before .before .before .before .before .before .if1 .left)
       (c .before .before .before .before .before .merge-node .ensures))
       (c .before .before .before .before .before .before .before .before .before .before .before .before .before .loop .inv .3)
-      (c .before .one .given .1) h),
+      (c .before .first .given .1) h),
 )
 
 merge-trees-copy-requires-2 : (t : ℕ) → merge-trees-lts.Need-copy-requires-2 (
@@ -1449,11 +1700,11 @@ merge-trees-returns-3 : (t : ℕ) → merge-trees-lts.Need-returns-3 (
 merge-trees-returns-3 t c =
     c .before .before .before .before .before .loop .inv .4 (c .before .before .copy2 .last .0)
     (c .before .before .copy2 .result)
-    (second-copied (trees-first-none (c .before .before .before .before .before .loop .w)
+    (second-copied (trees-first-none (c .before .before .before .before .before .loop .work)
     (c .before .before .before .before .before .loop .a)
-    (c .before .before .before .before .before .before .before .args .ie)
+    (c .before .before .before .before .before .before .before .args .one .to)
     (c .before .before .before .before .before .loop .b)
-    (c .before .before .before .before .before .before .before .args .je)
+    (c .before .before .before .before .before .before .before .args .other .to)
     (c .before .before .before .before .loop-test .left)) (c .before .before .copy2 .ensures))
 
 pub +merge-entry+merge-first+merge-labels+merge-node+merge-trees-spec : {M : Type 1} → statement M
@@ -1465,6 +1716,12 @@ pub +merge-entry+merge-first+merge-labels+merge-node+merge-trees-spec : {M : Typ
     μ-merge-node
     μ-merge-trees
     (λ t. merge-entry-lts.spec (
+      label-at-reads.Asked,
+      label-at-reads.Learnt,
+      heads-reads.Asked,
+      heads-reads.Learnt,
+      trees-at-reads.Asked,
+      trees-at-reads.Learnt,
       copy-reads.Asked,
       copy-reads.Learnt,
       merge-trees-below t,
@@ -1474,20 +1731,24 @@ pub +merge-entry+merge-first+merge-labels+merge-node+merge-trees-spec : {M : Typ
     )
     (merge-entry-at t)
     merge-entry.Post
+    (merge-entry-label-at-requires t)
+    (merge-entry-heads-requires t)
+    (merge-entry-add-x t)
+    (merge-entry-trees-at-requires t)
     (merge-entry-sub-if1 t)
+    (merge-entry-same-length t)
     (merge-entry-returns t)
-    (merge-entry-add-copy t)
-    (merge-entry-add-copy-2 t)
-    (merge-entry-add-copy-3 t)
+    (merge-entry-add-at t)
+    (merge-entry-slice-read-tag t)
+    (merge-entry-add-t24 t)
+    (merge-entry-sub-finish t)
+    (merge-entry-add-t24-2 t)
     (merge-entry-copy-requires t)
-    (merge-entry-add-merge-trees t)
-    (merge-entry-add-merge-trees-2 t)
-    (merge-entry-add-merge-trees-3 t)
     (merge-entry-merge-trees-requires t)
-    (merge-entry-add-finish t)
+    (merge-entry-sub-finish-2 t)
     (merge-entry-finish-requires t)
     (merge-entry-finish-requires-2 t)
-    (merge-entry-same-length t)
+    (merge-entry-same-length-2 t)
     (merge-entry-returns-2 t))
     (λ t. merge-first-lts.spec (
       label-at-reads.Asked,
@@ -1535,7 +1796,7 @@ pub +merge-entry+merge-first+merge-labels+merge-node+merge-trees-spec : {M : Typ
     (merge-labels-label-at-requires t)
     (merge-labels-label-at-requires-2 t)
     (merge-labels-merge-first-requires t)
-    (merge-labels-enum-known-one t)
+    (merge-labels-enum-known-first t)
     (merge-labels-enum-told t)
     (merge-labels-same-length-2 t)
     (merge-labels-returns-2 t)
@@ -1560,13 +1821,11 @@ pub +merge-entry+merge-first+merge-labels+merge-node+merge-trees-spec : {M : Typ
     merge-node.Post
     (merge-node-sub-if1 t)
     (merge-node-returns t)
-    (merge-node-add-field-end t)
+    (merge-node-add-s t)
+    (merge-node-add-t t)
+    (merge-node-add-d t)
     (merge-node-field-end-requires t)
-    (merge-node-add-field-end-2 t)
     (merge-node-field-end-requires-2 t)
-    (merge-node-add-merge-root t)
-    (merge-node-add-merge-root-2 t)
-    (merge-node-add-merge-root-3 t)
     (merge-node-merge-root-requires t)
     (merge-node-enum-known-root t)
     (merge-node-enum-told t)
@@ -1595,7 +1854,7 @@ pub +merge-entry+merge-first+merge-labels+merge-node+merge-trees-spec : {M : Typ
     (merge-trees-field-end-requires t)
     (merge-trees-field-end-requires-2 t)
     (merge-trees-merge-node-requires t)
-    (merge-trees-enum-known-one t)
+    (merge-trees-enum-known-first t)
     (merge-trees-enum-told t)
     (merge-trees-same-length-2 t)
     (merge-trees-returns-2 t)

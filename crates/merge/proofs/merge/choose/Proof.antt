@@ -9,13 +9,13 @@ use Rattle.merge.proofs.merge.choose.Lts as lts
 
 returns : tie.Need-returns
 returns c =
-    sym (ap (λ t. cond t (c .before .args .p) (c .before .args .q))
-    (lt-ltb (c .before .args .x) (c .before .args .y) (c .if1 .taken)))
+    sym (ap (λ t. cond t (c .before .args .below) (c .before .args .otherwise))
+    (lt-ltb (c .before .args .label) (c .before .args .bound) (c .if1 .taken)))
 
 returns-2 : tie.Need-returns-2
 returns-2 c =
-    sym (ap (λ t. cond t (c .before .args .p) (c .before .args .q))
-    (le-ltb (c .before .args .x) (c .before .args .y) (c .if1 .left)))
+    sym (ap (λ t. cond t (c .before .args .below) (c .before .args .otherwise))
+    (le-ltb (c .before .args .label) (c .before .args .bound) (c .if1 .left)))
 
 pub choose-spec : {M : Type 1} → statement M
 choose-spec = tie.close (tie.spec returns returns-2)

@@ -28,11 +28,11 @@ same-length c = search needs
 
 returns : tie.Need-returns
 returns c =
-    first-copied (root-void (c .before .before .before .before .before .before .before .args .w .now)
-    (c .before .before .before .before .before .before .before .args .s)
-    (c .before .before .before .before .before .before .before .args .se)
-    (c .before .before .before .before .before .before .before .args .t)
-    (c .before .before .before .before .before .before .before .args .te)
+    first-copied (root-void (c .before .before .before .before .before .before .before .args .work .now)
+    (c .before .before .before .before .before .before .before .args .one .from)
+    (c .before .before .before .before .before .before .before .args .one .to)
+    (c .before .before .before .before .before .before .before .args .other .from)
+    (c .before .before .before .before .before .before .before .args .other .to)
     (c .before .before .before .before .if1 .taken)) (c .before .before .copy .ensures)
 
 same-length-2 : tie.Need-same-length-2
@@ -41,11 +41,11 @@ same-length-2 c = search needs
 returns-2 : tie.Need-returns-2
 returns-2 c =
     second-copied (root-full
-    (c .before .before .before .before .before .before .before .args .w .now)
-    (c .before .before .before .before .before .before .before .args .s)
-    (c .before .before .before .before .before .before .before .args .se)
-    (c .before .before .before .before .before .before .before .args .t)
-    (c .before .before .before .before .before .before .before .args .te)
+    (c .before .before .before .before .before .before .before .args .work .now)
+    (c .before .before .before .before .before .before .before .args .one .from)
+    (c .before .before .before .before .before .before .before .args .one .to)
+    (c .before .before .before .before .before .before .before .args .other .from)
+    (c .before .before .before .before .before .before .before .args .other .to)
     (c .before .before .before .before .if1 .left)) (c .before .before .copy2 .ensures)
 
 pub merge-root-spec : {M : Type 1} → statement M

@@ -19,9 +19,10 @@ same-length c = search needs
 returns : tie.Need-returns
 returns c =
     λ x y ox oy hx hy.
-    subst (λ z. Wrote (c .before .before .before .before .before .args .w .now)
-    (c .before .before .merge-node .last .0) (c .before .before .before .before .before .args .d)
-    (c .before .before .before .before .before .args .stop) (treeBytes z)
+    subst (λ z. Wrote (c .before .before .before .before .before .args .work .now)
+    (c .before .before .merge-node .last .0)
+    (c .before .before .before .before .before .args .room .from)
+    (c .before .before .before .before .before .args .room .to) (treeBytes z)
     (c .before .before .merge-node .result)) (two-merge x y ox oy)
     (c .before .before .merge-node .ensures x y hx hy)
 

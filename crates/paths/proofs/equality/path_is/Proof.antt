@@ -3,6 +3,7 @@ use native.Mathlib.Omega.{arith}
 use mathlib.Core.Path.{sym, _∙_}
 use borrow.Author.Tests.{not-true, not-false}
 use Rattle.spec_stages.specs.Paths.{apply}
+use Rattle.paths.specs.WalkLaws.{walk-room}
 use Rattle.paths.specs.EqualLaws.{array-absent, array-missing, array-given, array-part}
 use borrow.Author.Needs.{needs}
 use Rattle.paths.proofs.equality.path_is.Statement.{statement}
@@ -16,7 +17,7 @@ use Rattle.paths.proofs.path.present.Reads as present-reads
 use Rattle.queries.proofs.path.steps.Reads as steps-reads
 
 steps-requires : tie.Need-steps-requires
-steps-requires c κs = search needs
+steps-requires c κs = walk-room (c .before .before .before .pre)
 
 piece-requires : tie.Need-piece-requires
 piece-requires c κs = search needs
@@ -30,7 +31,7 @@ enum-told c = search needs
 returns : tie.Need-returns
 returns c =
     λ path t g h. array-missing (apply path t)
-    (c .before .before .before .before .before .before .before .before .args .o .now)
+    (c .before .before .before .before .before .before .before .before .args .array .now)
     (c .before .before .piece .ensures path t g h .missing (c .enum-told .given .1))
 
 sub-same-bytes : tie.Need-sub-same-bytes
@@ -42,13 +43,13 @@ sub-same-bytes c =
           (c .before .before .before .before .before .before .before .before .before .pre .stands .value)
           (c .before .before .before .before .before .before .before .before .before .pre .path .value-is)
           (c .before .before .before .before .before .before .before .before .before .pre .stands .value-is) .part
-          _ _ (c .before .found .given .1)) .array-is .ends,
+          _ (c .before .found .given .1)) .array-is .ends,
       (c .before .before .before .piece .ensures
           (c .before .before .before .before .before .before .before .before .before .pre .path .value)
           (c .before .before .before .before .before .before .before .before .before .pre .stands .value)
           (c .before .before .before .before .before .before .before .before .before .pre .path .value-is)
           (c .before .before .before .before .before .before .before .before .before .pre .stands .value-is) .part
-          _ _ (c .before .found .given .1)) .array-is .inside,
+          _ (c .before .found .given .1)) .array-is .inside,
     )
 
 part-same-bytes-start : tie.Need-part-same-bytes-start
@@ -60,13 +61,13 @@ part-same-bytes-start c =
           (c .before .before .before .before .before .before .before .before .before .pre .stands .value)
           (c .before .before .before .before .before .before .before .before .before .pre .path .value-is)
           (c .before .before .before .before .before .before .before .before .before .pre .stands .value-is) .part
-          _ _ (c .before .found .given .1)) .array-is .ends,
+          _ (c .before .found .given .1)) .array-is .ends,
       (c .before .before .before .piece .ensures
           (c .before .before .before .before .before .before .before .before .before .pre .path .value)
           (c .before .before .before .before .before .before .before .before .before .pre .stands .value)
           (c .before .before .before .before .before .before .before .before .before .pre .path .value-is)
           (c .before .before .before .before .before .before .before .before .before .pre .stands .value-is) .part
-          _ _ (c .before .found .given .1)) .array-is .inside,
+          _ (c .before .found .given .1)) .array-is .inside,
     )
 
 part-same-bytes-end : tie.Need-part-same-bytes-end
@@ -78,13 +79,13 @@ part-same-bytes-end c =
           (c .before .before .before .before .before .before .before .before .before .pre .stands .value)
           (c .before .before .before .before .before .before .before .before .before .pre .path .value-is)
           (c .before .before .before .before .before .before .before .before .before .pre .stands .value-is) .part
-          _ _ (c .before .found .given .1)) .array-is .ends,
+          _ (c .before .found .given .1)) .array-is .ends,
       (c .before .before .before .piece .ensures
           (c .before .before .before .before .before .before .before .before .before .pre .path .value)
           (c .before .before .before .before .before .before .before .before .before .pre .stands .value)
           (c .before .before .before .before .before .before .before .before .before .pre .path .value-is)
           (c .before .before .before .before .before .before .before .before .before .pre .stands .value-is) .part
-          _ _ (c .before .found .given .1)) .array-is .inside,
+          _ (c .before .found .given .1)) .array-is .inside,
     )
 
 same-bytes-requires : tie.Need-same-bytes-requires
@@ -93,8 +94,8 @@ same-bytes-requires c κs = search needs
 returns-2 : tie.Need-returns-2
 returns-2 c =
     λ path t g h. array-part (apply path t)
-    (c .before .before .before .before .before .before .before .before .before .before .before .args .o .now)
-    (c .before .before .before .before .before .piece .ensures path t g h .part _ _
+    (c .before .before .before .before .before .before .before .before .before .before .before .args .array .now)
+    (c .before .before .before .before .before .piece .ensures path t g h .part _
     (c .before .before .before .found .given .1)) (c .same-bytes .ensures)
 
 present-requires : tie.Need-present-requires
@@ -103,7 +104,7 @@ present-requires c κs = search needs
 returns-3 : tie.Need-returns-3
 returns-3 c =
     λ path t g h. array-absent (apply path t)
-    (c .before .before .before .before .before .before .before .args .o .now)
+    (c .before .before .before .before .before .before .before .args .array .now)
     (sym (c .before .present .ensures path t g h) ∙ not-true _ (c .if2 .taken))
 
 gives-requires : tie.Need-gives-requires
@@ -112,7 +113,7 @@ gives-requires c κs = search needs
 returns-4 : tie.Need-returns-4
 returns-4 c =
     λ path t g h. array-given (apply path t)
-    (c .before .before .before .before .before .before .before .before .args .o .now)
+    (c .before .before .before .before .before .before .before .before .args .array .now)
     (sym (c .before .before .present .ensures path t g h) ∙ not-false _ (c .before .if2 .left))
     (c .gives .ensures path t g h)
 

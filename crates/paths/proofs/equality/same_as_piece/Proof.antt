@@ -38,14 +38,14 @@ operand-requires c κs =
           ((c .before .before .before .before .before .before .before .pre .1) .stands .value)
           ((c .before .before .before .before .before .before .before .pre .1) .path .value-is)
           ((c .before .before .before .before .before .before .before .pre .1) .stands .value-is) .part _
-          _ (c .before .found .given .1)) .array;
+          (c .before .found .given .1)) .array;
       value-is =
           (c .before .before .before .piece .ensures
           ((c .before .before .before .before .before .before .before .pre .1) .path .value)
           ((c .before .before .before .before .before .before .before .pre .1) .stands .value)
           ((c .before .before .before .before .before .before .before .pre .1) .path .value-is)
           ((c .before .before .before .before .before .before .before .pre .1) .stands .value-is) .part _
-          _ (c .before .found .given .1)) .array-is;
+          (c .before .found .given .1)) .array-is;
     }
 
 path-is-requires : tie.Need-path-is-requires

@@ -18,13 +18,13 @@ use Rattle.paths.proofs.equality.same_nth.Reads as same-nth-reads
 use Rattle.paths.proofs.path.count.Reads as count-reads
 
 abbrev Inv-loop : tie.InvT-loop
-Inv-loop q p e p2 e2 s a b s2 a2 b2 n j₀ j =
-    (j ≤ n) × TellsBoth q p e p2 e2 s a b s2 a2 b2
+Inv-loop query area area2 n one other j₀ j =
+    (j ≤ n) × TellsBoth query area one area2 other
     (λ x y. (k : ℕ) → k < j → treeBytes (getD (given x) k bareVoid) ≡ treeBytes
     (getD (given y) k bareVoid))
 
 abbrev μ-loop : tie.MeasureT-loop
-μ-loop q p e p2 e2 s a b s2 a2 b2 n j₀ j = n - j
+μ-loop query area area2 n one other j₀ j = n - j
 
 count-requires : tie.Need-count-requires Inv-loop μ-loop
 count-requires c κs = c .before .before .before .pre .0

@@ -13,8 +13,8 @@ use Rattle.paths.proofs.path.nth.Reads as nth-reads
 nth-requires : tie.Need-nth-requires
 nth-requires c κs = search needs
 
-enum-known-one : tie.Need-enum-known-one
-enum-known-one c = search needs
+enum-known-first : tie.Need-enum-known-first
+enum-known-first c = search needs
 
 enum-told : tie.Need-enum-told
 enum-told c = search needs
@@ -27,8 +27,8 @@ returns c =
 nth-requires-2 : tie.Need-nth-requires-2
 nth-requires-2 c κs = search needs
 
-enum-known-other : tie.Need-enum-known-other
-enum-known-other c = search needs
+enum-known-second : tie.Need-enum-known-second
+enum-known-second c = search needs
 
 enum-told-2 : tie.Need-enum-told-2
 enum-told-2 c = search needs
@@ -45,7 +45,7 @@ sub-same-bytes c =
       (element-span
           (c .before .before .before .before .before .before .before .before .before .before .before .pre .0)
           (c .before .before .before .before .before .before .before .nth .ensures)
-          (c .before .before .before .before .before .one .given .1)),
+          (c .before .before .before .before .before .first .given .1)),
     )
 
 part-same-bytes-start : tie.Need-part-same-bytes-start
@@ -55,7 +55,7 @@ part-same-bytes-start c =
       (element-span
           (c .before .before .before .before .before .before .before .before .before .before .before .pre .0)
           (c .before .before .before .before .before .before .before .nth .ensures)
-          (c .before .before .before .before .before .one .given .1)),
+          (c .before .before .before .before .before .first .given .1)),
     )
 
 part-same-bytes-end : tie.Need-part-same-bytes-end
@@ -65,7 +65,7 @@ part-same-bytes-end c =
       (element-span
           (c .before .before .before .before .before .before .before .before .before .before .before .pre .0)
           (c .before .before .before .before .before .before .before .nth .ensures)
-          (c .before .before .before .before .before .one .given .1)),
+          (c .before .before .before .before .before .first .given .1)),
     )
 
 sub-same-bytes-2 : tie.Need-sub-same-bytes-2
@@ -74,7 +74,7 @@ sub-same-bytes-2 c =
       arith,
       (element-span
           (c .before .before .before .before .before .before .before .before .before .before .before .before .pre .1)
-          (c .before .before .before .before .nth2 .ensures) (c .before .before .other .given .1)),
+          (c .before .before .before .before .nth2 .ensures) (c .before .before .second .given .1)),
     )
 
 part-same-bytes-start-2 : tie.Need-part-same-bytes-start-2
@@ -83,7 +83,7 @@ part-same-bytes-start-2 c =
       arith,
       (element-span
           (c .before .before .before .before .before .before .before .before .before .before .before .before .pre .1)
-          (c .before .before .before .before .nth2 .ensures) (c .before .before .other .given .1)),
+          (c .before .before .before .before .nth2 .ensures) (c .before .before .second .given .1)),
     )
 
 part-same-bytes-end-2 : tie.Need-part-same-bytes-end-2
@@ -92,7 +92,7 @@ part-same-bytes-end-2 c =
       arith,
       (element-span
           (c .before .before .before .before .before .before .before .before .before .before .before .before .pre .1)
-          (c .before .before .before .before .nth2 .ensures) (c .before .before .other .given .1)),
+          (c .before .before .before .before .nth2 .ensures) (c .before .before .second .given .1)),
     )
 
 same-bytes-requires : tie.Need-same-bytes-requires
@@ -103,19 +103,19 @@ returns-3 c =
     λ path t g h path2 u g2 h2 l l2.
     nth-same (c .before .before .before .before .before .before .before .before .before .before .nth .ensures
     path t g h) (c .before .before .before .before .before .before .nth2 .ensures path2 u g2 h2)
-    (c .before .before .before .before .before .before .before .before .one .given .1)
-    (c .before .before .before .before .other .given .1) (c .same-bytes .ensures)
+    (c .before .before .before .before .before .before .before .before .first .given .1)
+    (c .before .before .before .before .second .given .1) (c .same-bytes .ensures)
 
 pub same-nth-spec : {M : Type 1} → statement M
 same-nth-spec =
     tie.close
     (tie.spec
     nth-requires
-    enum-known-one
+    enum-known-first
     enum-told
     returns
     nth-requires-2
-    enum-known-other
+    enum-known-second
     enum-told-2
     returns-2
     sub-same-bytes

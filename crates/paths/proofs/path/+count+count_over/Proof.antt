@@ -6,7 +6,8 @@ use Prim.Native.Nat.{ℕ, _+_, _*_, _-_, _≤_}
 use lib.ListN.{length}
 use Rattle.format.specs.Stand.{treesBytes}
 use Rattle.format.specs.StandLaws.{tree-places}
-use Rattle.queries.specs.Steps.{stepCount}
+use Rattle.areas.specs.Area.{span}
+use Rattle.queries.specs.StepLaws.{steps-fewer}
 use Rattle.paths.specs.Walk.{given, Walk, TellsJoined}
 use Rattle.paths.specs.WalkLaws.{
   tells-end,
@@ -14,7 +15,7 @@ use Rattle.paths.specs.WalkLaws.{
   tells-part,
   over-given,
   walk-inside,
-  walk-order,
+  walk-room,
   walk-part,
   part-places,
   walk-first,
@@ -39,10 +40,10 @@ use Rattle.paths.proofs.path.+count+count_over.{statement}
 use Rattle.paths.proofs.path.+count+count_over.Tie.{close}
 
 abbrev μ-count : Measures 2 count-kinds.ps ℕ
-μ-count κs a = 2 * (stepCount (a .1 .0) (a .1 .1 .0) - a .1 .1 .1 .0)
+μ-count κs a = 2 * (a .1 .0 .to - a .1 .1 .0)
 
 abbrev μ-count-over : Measures 2 count-over-kinds.ps ℕ
-μ-count-over κs a = 2 * (stepCount (a .1 .0) (a .1 .1 .0) - a .1 .1 .1 .0) + 1
+μ-count-over κs a = 2 * (a .1 .0 .to - a .1 .1 .0) + 1
 
 abbrev count-at : ℕ → In 2 count-kinds.ps
 count-at t = and 2 count-kinds.ps (is 2 count-kinds.ps μ-count t) count.Pre
@@ -66,7 +67,7 @@ count-steps-requires : (t : ℕ) → count-lts.Need-steps-requires (
   count-over-below t,
   count-over.Post,
 ) (count-at t) count.Post
-count-steps-requires t c κs = walk-order (c .before .before .pre .1)
+count-steps-requires t c κs = walk-room (c .before .before .pre .1)
 
 count-returns : (t : ℕ) → count-lts.Need-returns (
   steps-reads.Asked,
@@ -78,11 +79,12 @@ count-returns : (t : ℕ) → count-lts.Need-returns (
 ) (count-at t) count.Post
 count-returns t c = (
   omega (arith, tree-places (c .before .before .before .before .pre .1 .stands) refl),
-  tells-end (c .before .before .before .before .args .q .now)
-      (c .before .before .before .before .args .p) (c .before .before .before .before .args .e)
-      (c .before .before .before .before .args .i) (c .before .before .before .before .args .s .now)
-      (c .before .before .before .before .args .a) (c .before .before .before .before .args .b)
-      (λ x. 1 ≡ length (given x)) (c .if1 .taken ∙ c .before .steps .ensures) (λ t h. count-one t),
+  tells-end (c .before .before .before .before .args .query .now)
+      (c .before .before .before .before .args .path) (c .before .before .before .before .args .i)
+      (c .before .before .before .before .args .area .now)
+      (c .before .before .before .before .args .tree .from)
+      (c .before .before .before .before .args .tree .to) (λ x. 1 ≡ length (given x))
+      (c .if1 .taken ∙ c .before .steps .ensures) (λ t h. count-one t),
 )
 
 count-under-requires : (t : ℕ) → count-lts.Need-under-requires (
@@ -131,13 +133,12 @@ count-returns-2 : (t : ℕ) → count-lts.Need-returns-2 (
 count-returns-2 t c = (
   omega arith,
   tells-missing
-      (c .before .before .before .before .before .before .before .args .q .now)
-      (c .before .before .before .before .before .before .before .args .p)
-      (c .before .before .before .before .before .before .before .args .e)
+      (c .before .before .before .before .before .before .before .args .query .now)
+      (c .before .before .before .before .before .before .before .args .path)
       (c .before .before .before .before .before .before .before .args .i)
-      (c .before .before .before .before .before .before .before .args .s .now)
-      (c .before .before .before .before .before .before .before .args .a)
-      (c .before .before .before .before .before .before .before .args .b)
+      (c .before .before .before .before .before .before .before .args .area .now)
+      (c .before .before .before .before .before .before .before .args .tree .from)
+      (c .before .before .before .before .before .before .before .args .tree .to)
       (λ x. 0 ≡ length (given x))
       (step-left (c .before .before .before .before .before .before .before .pre .1)
       (c .before .before .before .before .steps .ensures) (c .before .before .before .if1 .left))
@@ -159,6 +160,8 @@ count-add-count-over t c =
           (c .before .before .before .before .before .before .before .before .pre .1)
           (c .before .before .before .before .before .steps .ensures)
           (c .before .before .before .before .if1 .left)),
+      (steps-fewer (c .before .before .before .before .before .before .before .before .args .query .now)
+          (c .before .before .before .before .before .before .before .before .args .path)),
     )
 
 count-count-over-requires : (t : ℕ) → count-lts.Need-count-over-requires (
@@ -176,6 +179,8 @@ count-count-over-requires t c κs = (
     (step-left (c .before .before .before .before .before .before .before .before .pre .1)
         (c .before .before .before .before .before .steps .ensures)
         (c .before .before .before .before .if1 .left)),
+    (steps-fewer (c .before .before .before .before .before .before .before .before .args .query .now)
+        (c .before .before .before .before .before .before .before .before .args .path)),
   ),
   walk-part
       (c .before .before .before .before .before .before .before .before .pre .1)
@@ -201,13 +206,12 @@ count-returns-3 t c = (
         (c .before .before .before .before .under .ensures) (c .before .before .found .given .1),
     c .count-over .ensures .0,
   ),
-  tells-part (c .before .before .before .before .before .before .before .before .before .args .q .now)
-      (c .before .before .before .before .before .before .before .before .before .args .p)
-      (c .before .before .before .before .before .before .before .before .before .args .e)
+  tells-part (c .before .before .before .before .before .before .before .before .before .args .query .now)
+      (c .before .before .before .before .before .before .before .before .before .args .path)
       (c .before .before .before .before .before .before .before .before .before .args .i)
-      (c .before .before .before .before .before .before .before .before .before .args .s .now)
-      (c .before .before .before .before .before .before .before .before .before .args .a)
-      (c .before .before .before .before .before .before .before .before .before .args .b)
+      (c .before .before .before .before .before .before .before .before .before .args .area .now)
+      (c .before .before .before .before .before .before .before .before .before .args .tree .from)
+      (c .before .before .before .before .before .before .before .before .before .args .tree .to)
       (λ x. c .count-over .result ≡ length (given x))
       (step-left (c .before .before .before .before .before .before .before .before .before .pre .1)
       (c .before .before .before .before .before .before .steps .ensures)
@@ -217,13 +221,13 @@ count-returns-3 t c = (
 )
 
 abbrev count-over-Inv-loop : count-over-lts.InvT-loop
-count-over-Inv-loop q p e i s a b n₀ at₀ n at =
-    Walk treesBytes q p e i s at b × (a ≤ at) × (n ≤ at - a)
-    × ((k : ℕ) → TellsJoined q p e i s at b (λ x. k ≡ n + length (given x)) → TellsJoined q p e i s
-    a b (λ x. k ≡ length (given x)))
+count-over-Inv-loop query path i area end n₀ at₀ n at =
+    Walk treesBytes query path i area (span at end) × (at₀ ≤ at) × (n ≤ at - at₀)
+    × ((k : ℕ) → TellsJoined query path i area (span at end) (λ x. k ≡ n + length (given x)) →
+    TellsJoined query path i area (span at₀ end) (λ x. k ≡ length (given x)))
 
 abbrev count-over-μ-loop : count-over-lts.MeasureT-loop
-count-over-μ-loop q p e i s a b n₀ at₀ n at = b - at
+count-over-μ-loop query path i area end n₀ at₀ n at = end - at
 
 count-over-loop-holds : (t : ℕ) → count-over-lts.Need-loop-holds (
   field-end-reads.Asked,
@@ -308,13 +312,12 @@ count-over-loop-again t c = (
     c .count .ensures .0,
   ),
   λ k h. c .before .before .before .loop .inv .3 k
-      (count-next (c .before .before .before .before .before .before .args .q .now)
-      (c .before .before .before .before .before .before .args .p)
-      (c .before .before .before .before .before .before .args .e)
+      (count-next (c .before .before .before .before .before .before .args .query .now)
+      (c .before .before .before .before .before .before .args .path)
       (c .before .before .before .before .before .before .args .i)
-      (c .before .before .before .before .before .before .args .s .now)
+      (c .before .before .before .before .before .before .args .area .now)
       (c .before .before .before .loop .at)
-      (c .before .before .before .before .before .before .args .b)
+      (c .before .before .before .before .before .before .args .trees .to)
       (c .before .before .before .loop .n) (c .before .before .loop-test .taken)
       (c .before .field-end .ensures) (c .count .ensures .1) k h),
 )
@@ -327,16 +330,16 @@ count-over-returns : (t : ℕ) → count-over-lts.Need-returns (
 ) (count-over-at t) count-over.Post count-over-Inv-loop count-over-μ-loop
 count-over-returns t c = (
   omega arith,
-  over-given (c .before .before .before .before .args .q .now)
-      (c .before .before .before .before .args .p) (c .before .before .before .before .args .e)
-      (c .before .before .before .before .args .i) (c .before .before .before .before .args .s .now)
-      (c .before .before .before .before .args .a) (c .before .before .before .before .args .b)
-      (λ l. c .before .loop .n ≡ length l)
+  over-given (c .before .before .before .before .args .query .now)
+      (c .before .before .before .before .args .path) (c .before .before .before .before .args .i)
+      (c .before .before .before .before .args .area .now)
+      (c .before .before .before .before .args .trees .from)
+      (c .before .before .before .before .args .trees .to) (λ l. c .before .loop .n ≡ length l)
       (c .before .loop .inv .3 (c .before .loop .n)
-      (count-end (c .before .before .before .before .args .q .now)
-      (c .before .before .before .before .args .p) (c .before .before .before .before .args .e)
-      (c .before .before .before .before .args .i) (c .before .before .before .before .args .s .now)
-      (c .before .loop .at) (c .before .before .before .before .args .b) (c .before .loop .n)
+      (count-end (c .before .before .before .before .args .query .now)
+      (c .before .before .before .before .args .path) (c .before .before .before .before .args .i)
+      (c .before .before .before .before .args .area .now) (c .before .loop .at)
+      (c .before .before .before .before .args .trees .to) (c .before .loop .n)
       (c .loop-test .left))),
 )
 

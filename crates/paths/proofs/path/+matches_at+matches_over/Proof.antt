@@ -5,10 +5,11 @@ use mathlib.Core.Path.{refl, _∙_}
 use Prim.Native.Nat.{_+_, _*_, _-_, _≤_}
 use lib.ListN.{length}
 use Rattle.format.specs.Stand.{treesBytes}
-use Rattle.queries.specs.Steps.{stepCount}
 use Rattle.paths.specs.declared.path.Compared.{Compared}
 use Rattle.paths.specs.declared.path.Compared.the-variants.{At, Differs}
 use Rattle.spec_trees.specs.Tree.{trees}
+use Rattle.areas.specs.Area.{span}
+use Rattle.queries.specs.StepLaws.{steps-fewer}
 use Rattle.paths.specs.Walk.{givenBytes, Walk, TellsJoined, ComparedIs}
 use Rattle.paths.specs.WalkLaws.{
   tells-end,
@@ -16,7 +17,7 @@ use Rattle.paths.specs.WalkLaws.{
   tells-part,
   over-given,
   walk-inside,
-  walk-order,
+  walk-room,
   walk-part,
   walk-first,
   walk-rest,
@@ -49,10 +50,10 @@ use Rattle.paths.proofs.path.+matches_at+matches_over.{statement}
 use Rattle.paths.proofs.path.+matches_at+matches_over.Tie.{close}
 
 abbrev μ-matches-at : Measures 3 matches-at-kinds.ps ℕ
-μ-matches-at κs a = 2 * (stepCount (a .1 .0) (a .1 .1 .0) - a .1 .1 .1 .0)
+μ-matches-at κs a = 2 * (a .1 .0 .to - a .1 .1 .0)
 
 abbrev μ-matches-over : Measures 3 matches-over-kinds.ps ℕ
-μ-matches-over κs a = 2 * (stepCount (a .1 .0) (a .1 .1 .0) - a .1 .1 .1 .0) + 1
+μ-matches-over κs a = 2 * (a .1 .0 .to - a .1 .1 .0) + 1
 
 abbrev matches-at-at : ℕ → In 3 matches-at-kinds.ps
 matches-at-at t =
@@ -84,7 +85,7 @@ matches-at-steps-requires : (t : ℕ) → matches-at-lts.Need-steps-requires (
   matches-over-below t,
   matches-over.Post,
 ) (matches-at-at t) matches-at.Post
-matches-at-steps-requires t c κs = walk-order (c .before .before .before .pre .1 .0)
+matches-at-steps-requires t c κs = walk-room (c .before .before .before .pre .1 .0)
 
 matches-at-stands-at-requires : (t : ℕ) → matches-at-lts.Need-stands-at-requires (
   steps-reads.Asked,
@@ -114,14 +115,13 @@ matches-at-returns : (t : ℕ) → matches-at-lts.Need-returns (
   matches-over.Post,
 ) (matches-at-at t) matches-at.Post
 matches-at-returns t c =
-    tells-end (c .before .before .before .before .before .before .args .q .now)
-    (c .before .before .before .before .before .before .args .p)
-    (c .before .before .before .before .before .before .args .e)
+    tells-end (c .before .before .before .before .before .before .args .query .now)
+    (c .before .before .before .before .before .before .args .path)
     (c .before .before .before .before .before .before .args .i)
-    (c .before .before .before .before .before .before .args .s .now)
-    (c .before .before .before .before .before .before .args .a)
-    (c .before .before .before .before .before .before .args .b)
-    (λ x. ComparedIs (c .before .before .before .before .before .before .args .o .now)
+    (c .before .before .before .before .before .before .args .area .now)
+    (c .before .before .before .before .before .before .args .tree .from)
+    (c .before .before .before .before .before .before .args .tree .to)
+    (λ x. ComparedIs (c .before .before .before .before .before .before .args .other .now)
     (c .before .before .before .before .before .before .args .at) (givenBytes x)
     (c .stands-at .result)) (c .before .if1 .taken ∙ c .before .before .steps .ensures)
     (compared-one (c .stands-at .ensures))
@@ -178,14 +178,13 @@ matches-at-returns-2 : (t : ℕ) → matches-at-lts.Need-returns-2 (
   matches-over.Post,
 ) (matches-at-at t) matches-at.Post
 matches-at-returns-2 t c =
-    tells-missing (c .before .before .before .before .before .before .before .before .args .q .now)
-    (c .before .before .before .before .before .before .before .before .args .p)
-    (c .before .before .before .before .before .before .before .before .args .e)
+    tells-missing (c .before .before .before .before .before .before .before .before .args .query .now)
+    (c .before .before .before .before .before .before .before .before .args .path)
     (c .before .before .before .before .before .before .before .before .args .i)
-    (c .before .before .before .before .before .before .before .before .args .s .now)
-    (c .before .before .before .before .before .before .before .before .args .a)
-    (c .before .before .before .before .before .before .before .before .args .b)
-    (λ x. ComparedIs (c .before .before .before .before .before .before .before .before .args .o .now)
+    (c .before .before .before .before .before .before .before .before .args .area .now)
+    (c .before .before .before .before .before .before .before .before .args .tree .from)
+    (c .before .before .before .before .before .before .before .before .args .tree .to)
+    (λ x. ComparedIs (c .before .before .before .before .before .before .before .before .args .other .now)
     (c .before .before .before .before .before .before .before .before .args .at) (givenBytes x)
     (At (c .before .before .before .before .before .before .before .before .args .at)))
     (step-left (c .before .before .before .before .before .before .before .before .pre .1 .0)
@@ -210,6 +209,8 @@ matches-at-add-matches-over t c =
           (c .before .before .before .before .before .before .before .before .before .pre .1 .0)
           (c .before .before .before .before .before .steps .ensures)
           (c .before .before .before .before .if1 .left)),
+      (steps-fewer (c .before .before .before .before .before .before .before .before .before .args .query .now)
+          (c .before .before .before .before .before .before .before .before .before .args .path)),
     )
 
 matches-at-matches-over-requires : (t : ℕ) → matches-at-lts.Need-matches-over-requires (
@@ -229,6 +230,8 @@ matches-at-matches-over-requires t c κs = (
     (step-left (c .before .before .before .before .before .before .before .before .before .pre .1 .0)
         (c .before .before .before .before .before .steps .ensures)
         (c .before .before .before .before .if1 .left)),
+    (steps-fewer (c .before .before .before .before .before .before .before .before .before .args .query .now)
+        (c .before .before .before .before .before .before .before .before .before .args .path)),
   ),
   (
     walk-part (c .before .before .before .before .before .before .before .before .before .pre .1 .0)
@@ -251,14 +254,13 @@ matches-at-returns-3 : (t : ℕ) → matches-at-lts.Need-returns-3 (
   matches-over.Post,
 ) (matches-at-at t) matches-at.Post
 matches-at-returns-3 t c =
-    tells-part (c .before .before .before .before .before .before .before .before .before .before .args .q .now)
-    (c .before .before .before .before .before .before .before .before .before .before .args .p)
-    (c .before .before .before .before .before .before .before .before .before .before .args .e)
+    tells-part (c .before .before .before .before .before .before .before .before .before .before .args .query .now)
+    (c .before .before .before .before .before .before .before .before .before .before .args .path)
     (c .before .before .before .before .before .before .before .before .before .before .args .i)
-    (c .before .before .before .before .before .before .before .before .before .before .args .s .now)
-    (c .before .before .before .before .before .before .before .before .before .before .args .a)
-    (c .before .before .before .before .before .before .before .before .before .before .args .b)
-    (λ x. ComparedIs (c .before .before .before .before .before .before .before .before .before .before .args .o .now)
+    (c .before .before .before .before .before .before .before .before .before .before .args .area .now)
+    (c .before .before .before .before .before .before .before .before .before .before .args .tree .from)
+    (c .before .before .before .before .before .before .before .before .before .before .args .tree .to)
+    (λ x. ComparedIs (c .before .before .before .before .before .before .before .before .before .before .args .other .now)
     (c .before .before .before .before .before .before .before .before .before .before .args .at)
     (givenBytes x) (c .matches-over .result))
     (step-left (c .before .before .before .before .before .before .before .before .before .before .pre .1 .0)
@@ -268,13 +270,14 @@ matches-at-returns-3 t c =
     (c .matches-over .ensures)
 
 abbrev matches-over-Inv-loop : matches-over-lts.InvT-loop
-matches-over-Inv-loop q p e i s a b o at n₀ from₀ n from =
-    Walk treesBytes q p e i s from b × (n ≤ length o)
-    × ((r : Compared) → TellsJoined q p e i s from b (λ x. ComparedIs o n (givenBytes x) r) →
-    TellsJoined q p e i s a b (λ x. ComparedIs o at (givenBytes x) r))
+matches-over-Inv-loop query path i area other at end n₀ from₀ n from =
+    Walk treesBytes query path i area (span from end) × (n ≤ length other)
+    × ((r : Compared) → TellsJoined query path i area (span from end)
+    (λ x. ComparedIs other n (givenBytes x) r) → TellsJoined query path i area (span from₀ end)
+    (λ x. ComparedIs other at (givenBytes x) r))
 
 abbrev matches-over-μ-loop : matches-over-lts.MeasureT-loop
-matches-over-μ-loop q p e i s a b o at n₀ from₀ n from = b - from
+matches-over-μ-loop query path i area other at end n₀ from₀ n from = end - from
 
 matches-over-loop-holds : (t : ℕ) → matches-over-lts.Need-loop-holds (
   field-end-reads.Asked,
@@ -332,25 +335,23 @@ matches-over-returns : (t : ℕ) → matches-over-lts.Need-returns (
   matches-at.Post,
 ) (matches-over-at t) matches-over.Post matches-over-Inv-loop matches-over-μ-loop
 matches-over-returns t c =
-    over-given (c .before .before .before .before .before .before .before .before .before .args .q .now)
-    (c .before .before .before .before .before .before .before .before .before .args .p)
-    (c .before .before .before .before .before .before .before .before .before .args .e)
+    over-given (c .before .before .before .before .before .before .before .before .before .args .query .now)
+    (c .before .before .before .before .before .before .before .before .before .args .path)
     (c .before .before .before .before .before .before .before .before .before .args .i)
-    (c .before .before .before .before .before .before .before .before .before .args .s .now)
-    (c .before .before .before .before .before .before .before .before .before .args .a)
-    (c .before .before .before .before .before .before .before .before .before .args .b)
-    (λ l. ComparedIs (c .before .before .before .before .before .before .before .before .before .args .o .now)
+    (c .before .before .before .before .before .before .before .before .before .args .area .now)
+    (c .before .before .before .before .before .before .before .before .before .args .trees .from)
+    (c .before .before .before .before .before .before .before .before .before .args .trees .to)
+    (λ l. ComparedIs (c .before .before .before .before .before .before .before .before .before .args .other .now)
     (c .before .before .before .before .before .before .before .before .before .args .at)
     (treesBytes (trees l)) Differs)
     (c .before .before .before .before .before .loop .inv .2 Differs
-    (compared-here (c .before .before .before .before .before .before .before .before .before .args .q .now)
-    (c .before .before .before .before .before .before .before .before .before .args .p)
-    (c .before .before .before .before .before .before .before .before .before .args .e)
+    (compared-here (c .before .before .before .before .before .before .before .before .before .args .query .now)
+    (c .before .before .before .before .before .before .before .before .before .args .path)
     (c .before .before .before .before .before .before .before .before .before .args .i)
-    (c .before .before .before .before .before .before .before .before .before .args .s .now)
+    (c .before .before .before .before .before .before .before .before .before .args .area .now)
     (c .before .before .before .before .before .loop .from)
-    (c .before .before .before .before .before .before .before .before .before .args .b)
-    (c .before .before .before .before .before .before .before .before .before .args .o .now)
+    (c .before .before .before .before .before .before .before .before .before .args .trees .to)
+    (c .before .before .before .before .before .before .before .before .before .args .other .now)
     (c .before .before .before .before .before .loop .n)
     (c .before .before .before .before .loop-test .taken)
     (c .before .before .before .field-end .ensures) (c .before .before .matches-at .ensures)
@@ -385,14 +386,13 @@ matches-over-loop-again t c = (
       (c .before .before .before .before .field-end .ensures))
       (c .before .before .before .matches-at .ensures) (c .before .r .given .1),
   λ r h. c .before .before .before .before .before .before .loop .inv .2 r
-      (compared-on (c .before .before .before .before .before .before .before .before .before .before .args .q .now)
-      (c .before .before .before .before .before .before .before .before .before .before .args .p)
-      (c .before .before .before .before .before .before .before .before .before .before .args .e)
+      (compared-on (c .before .before .before .before .before .before .before .before .before .before .args .query .now)
+      (c .before .before .before .before .before .before .before .before .before .before .args .path)
       (c .before .before .before .before .before .before .before .before .before .before .args .i)
-      (c .before .before .before .before .before .before .before .before .before .before .args .s .now)
+      (c .before .before .before .before .before .before .before .before .before .before .args .area .now)
       (c .before .before .before .before .before .before .loop .from)
-      (c .before .before .before .before .before .before .before .before .before .before .args .b)
-      (c .before .before .before .before .before .before .before .before .before .before .args .o .now)
+      (c .before .before .before .before .before .before .before .before .before .before .args .trees .to)
+      (c .before .before .before .before .before .before .before .before .before .before .args .other .now)
       (c .before .before .before .before .before .before .loop .n)
       (c .before .before .before .before .before .loop-test .taken)
       (c .before .before .before .before .field-end .ensures)
@@ -406,24 +406,22 @@ matches-over-returns-2 : (t : ℕ) → matches-over-lts.Need-returns-2 (
   matches-at.Post,
 ) (matches-over-at t) matches-over.Post matches-over-Inv-loop matches-over-μ-loop
 matches-over-returns-2 t c =
-    over-given (c .before .before .before .before .before .args .q .now)
-    (c .before .before .before .before .before .args .p)
-    (c .before .before .before .before .before .args .e)
+    over-given (c .before .before .before .before .before .args .query .now)
+    (c .before .before .before .before .before .args .path)
     (c .before .before .before .before .before .args .i)
-    (c .before .before .before .before .before .args .s .now)
-    (c .before .before .before .before .before .args .a)
-    (c .before .before .before .before .before .args .b)
-    (λ l. ComparedIs (c .before .before .before .before .before .args .o .now)
+    (c .before .before .before .before .before .args .area .now)
+    (c .before .before .before .before .before .args .trees .from)
+    (c .before .before .before .before .before .args .trees .to)
+    (λ l. ComparedIs (c .before .before .before .before .before .args .other .now)
     (c .before .before .before .before .before .args .at) (treesBytes (trees l))
     (At (c .before .loop .n)))
     (c .before .loop .inv .2 (At (c .before .loop .n))
-    (compared-end (c .before .before .before .before .before .args .q .now)
-    (c .before .before .before .before .before .args .p)
-    (c .before .before .before .before .before .args .e)
+    (compared-end (c .before .before .before .before .before .args .query .now)
+    (c .before .before .before .before .before .args .path)
     (c .before .before .before .before .before .args .i)
-    (c .before .before .before .before .before .args .s .now) (c .before .loop .from)
-    (c .before .before .before .before .before .args .b)
-    (c .before .before .before .before .before .args .o .now) (c .before .loop .n)
+    (c .before .before .before .before .before .args .area .now) (c .before .loop .from)
+    (c .before .before .before .before .before .args .trees .to)
+    (c .before .before .before .before .before .args .other .now) (c .before .loop .n)
     (c .before .loop .inv .1) (c .loop-test .left)))
 
 pub +matches-at+matches-over-spec : {M : Type 1} → statement M

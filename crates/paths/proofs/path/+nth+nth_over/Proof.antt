@@ -4,9 +4,10 @@ use borrow.Author.Needs.{needs}
 use mathlib.Core.Path.{refl, _∙_}
 use Prim.Native.Nat.{_+_, _*_, _-_}
 use Rattle.format.specs.Stand.{treesBytes}
-use Rattle.queries.specs.Steps.{stepCount}
 use Rattle.paths.specs.declared.path.Element.{Element}
 use Rattle.paths.specs.declared.path.Element.the-variants.{Part, Fewer}
+use Rattle.areas.specs.Area.{span}
+use Rattle.queries.specs.StepLaws.{steps-fewer}
 use Rattle.paths.specs.Walk.{given, Walk, TellsJoined, ElementIs}
 use Rattle.paths.specs.WalkLaws.{
   tells-end,
@@ -14,7 +15,7 @@ use Rattle.paths.specs.WalkLaws.{
   tells-part,
   over-given,
   walk-inside,
-  walk-order,
+  walk-room,
   walk-part,
   part-places,
   walk-first,
@@ -47,10 +48,10 @@ use Rattle.paths.proofs.path.+nth+nth_over.{statement}
 use Rattle.paths.proofs.path.+nth+nth_over.Tie.{close}
 
 abbrev μ-nth : Measures 2 nth-kinds.ps ℕ
-μ-nth κs a = 2 * (stepCount (a .1 .0) (a .1 .1 .0) - a .1 .1 .1 .0)
+μ-nth κs a = 2 * (a .1 .0 .to - a .1 .1 .0)
 
 abbrev μ-nth-over : Measures 2 nth-over-kinds.ps ℕ
-μ-nth-over κs a = 2 * (stepCount (a .1 .0) (a .1 .1 .0) - a .1 .1 .1 .0) + 1
+μ-nth-over κs a = 2 * (a .1 .0 .to - a .1 .1 .0) + 1
 
 abbrev nth-at : ℕ → In 2 nth-kinds.ps
 nth-at t = and 2 nth-kinds.ps (is 2 nth-kinds.ps μ-nth t) nth.Pre
@@ -73,7 +74,7 @@ nth-steps-requires : (t : ℕ) → nth-lts.Need-steps-requires (
   nth-over-below t,
   nth-over.Post,
 ) (nth-at t) nth.Post
-nth-steps-requires t c κs = walk-order (c .before .before .pre .1)
+nth-steps-requires t c κs = walk-room (c .before .before .pre .1)
 
 nth-returns : (t : ℕ) → nth-lts.Need-returns (
   steps-reads.Asked,
@@ -84,26 +85,23 @@ nth-returns : (t : ℕ) → nth-lts.Need-returns (
   nth-over.Post,
 ) (nth-at t) nth.Post
 nth-returns t c =
-    tells-end (c .before .before .before .before .before .args .q .now)
-    (c .before .before .before .before .before .args .p)
-    (c .before .before .before .before .before .args .e)
+    tells-end (c .before .before .before .before .before .args .query .now)
+    (c .before .before .before .before .before .args .path)
     (c .before .before .before .before .before .args .i)
-    (c .before .before .before .before .before .args .s .now)
-    (c .before .before .before .before .before .args .a)
-    (c .before .before .before .before .before .args .b)
-    (λ x. ElementIs (c .before .before .before .before .before .args .s .now)
-    (c .before .before .before .before .before .args .a)
-    (c .before .before .before .before .before .args .b)
+    (c .before .before .before .before .before .args .area .now)
+    (c .before .before .before .before .before .args .tree .from)
+    (c .before .before .before .before .before .args .tree .to)
+    (λ x. ElementIs (c .before .before .before .before .before .args .area .now)
+    (c .before .before .before .before .before .args .tree)
     (c .before .before .before .before .before .args .j) (given x)
-    (Part (c .before .before .before .before .before .args .a)
-    (c .before .before .before .before .before .args .b)))
+    (Part (c .before .before .before .before .before .args .tree)))
     (c .before .if1 .taken ∙ c .before .before .steps .ensures)
-    (element-one (c .before .before .before .before .before .args .s .now)
-    (c .before .before .before .before .before .args .a)
-    (c .before .before .before .before .before .args .b)
+    (element-one (c .before .before .before .before .before .args .area .now)
+    (c .before .before .before .before .before .args .tree .from)
+    (c .before .before .before .before .before .args .tree .to)
     (c .before .before .before .before .before .args .j) (c .if2 .taken))
 
-nth-sub-t15 : (t : ℕ) → nth-lts.Need-sub-t15 (
+nth-sub-t12 : (t : ℕ) → nth-lts.Need-sub-t12 (
   steps-reads.Asked,
   steps-reads.Learnt,
   under-reads.Asked,
@@ -111,7 +109,7 @@ nth-sub-t15 : (t : ℕ) → nth-lts.Need-sub-t15 (
   nth-over-below t,
   nth-over.Post,
 ) (nth-at t) nth.Post
-nth-sub-t15 t c = search needs
+nth-sub-t12 t c = search needs
 
 nth-returns-2 : (t : ℕ) → nth-lts.Need-returns-2 (
   steps-reads.Asked,
@@ -122,22 +120,20 @@ nth-returns-2 : (t : ℕ) → nth-lts.Need-returns-2 (
   nth-over.Post,
 ) (nth-at t) nth.Post
 nth-returns-2 t c =
-    tells-end (c .before .before .before .before .before .args .q .now)
-    (c .before .before .before .before .before .args .p)
-    (c .before .before .before .before .before .args .e)
+    tells-end (c .before .before .before .before .before .args .query .now)
+    (c .before .before .before .before .before .args .path)
     (c .before .before .before .before .before .args .i)
-    (c .before .before .before .before .before .args .s .now)
-    (c .before .before .before .before .before .args .a)
-    (c .before .before .before .before .before .args .b)
-    (λ x. ElementIs (c .before .before .before .before .before .args .s .now)
-    (c .before .before .before .before .before .args .a)
-    (c .before .before .before .before .before .args .b)
+    (c .before .before .before .before .before .args .area .now)
+    (c .before .before .before .before .before .args .tree .from)
+    (c .before .before .before .before .before .args .tree .to)
+    (λ x. ElementIs (c .before .before .before .before .before .args .area .now)
+    (c .before .before .before .before .before .args .tree)
     (c .before .before .before .before .before .args .j) (given x)
     (Fewer (c .before .before .before .before .before .args .j - 1)))
     (c .before .if1 .taken ∙ c .before .before .steps .ensures)
-    (λ t h. element-past (c .before .before .before .before .before .args .s .now)
-    (c .before .before .before .before .before .args .a)
-    (c .before .before .before .before .before .args .b)
+    (λ t h. element-past (c .before .before .before .before .before .args .area .now)
+    (c .before .before .before .before .before .args .tree .from)
+    (c .before .before .before .before .before .args .tree .to)
     (c .before .before .before .before .before .args .j) (c .if2 .left) t)
 
 nth-under-requires : (t : ℕ) → nth-lts.Need-under-requires (
@@ -184,24 +180,22 @@ nth-returns-3 : (t : ℕ) → nth-lts.Need-returns-3 (
   nth-over.Post,
 ) (nth-at t) nth.Post
 nth-returns-3 t c =
-    tells-missing (c .before .before .before .before .before .before .before .args .q .now)
-    (c .before .before .before .before .before .before .before .args .p)
-    (c .before .before .before .before .before .before .before .args .e)
+    tells-missing (c .before .before .before .before .before .before .before .args .query .now)
+    (c .before .before .before .before .before .before .before .args .path)
     (c .before .before .before .before .before .before .before .args .i)
-    (c .before .before .before .before .before .before .before .args .s .now)
-    (c .before .before .before .before .before .before .before .args .a)
-    (c .before .before .before .before .before .before .before .args .b)
-    (λ x. ElementIs (c .before .before .before .before .before .before .before .args .s .now)
-    (c .before .before .before .before .before .before .before .args .a)
-    (c .before .before .before .before .before .before .before .args .b)
+    (c .before .before .before .before .before .before .before .args .area .now)
+    (c .before .before .before .before .before .before .before .args .tree .from)
+    (c .before .before .before .before .before .before .before .args .tree .to)
+    (λ x. ElementIs (c .before .before .before .before .before .before .before .args .area .now)
+    (c .before .before .before .before .before .before .before .args .tree)
     (c .before .before .before .before .before .before .before .args .j) (given x)
     (Fewer (c .before .before .before .before .before .before .before .args .j)))
     (step-left (c .before .before .before .before .before .before .before .pre .1)
     (c .before .before .before .before .steps .ensures) (c .before .before .before .if1 .left))
     (c .before .before .under .ensures) (c .enum-told .given .1)
-    (element-none (c .before .before .before .before .before .before .before .args .s .now)
-    (c .before .before .before .before .before .before .before .args .a)
-    (c .before .before .before .before .before .before .before .args .b)
+    (element-none (c .before .before .before .before .before .before .before .args .area .now)
+    (c .before .before .before .before .before .before .before .args .tree .from)
+    (c .before .before .before .before .before .before .before .args .tree .to)
     (c .before .before .before .before .before .before .before .args .j))
 
 nth-add-nth-over : (t : ℕ) → nth-lts.Need-add-nth-over (
@@ -219,6 +213,8 @@ nth-add-nth-over t c =
           (c .before .before .before .before .before .before .before .before .pre .1)
           (c .before .before .before .before .before .steps .ensures)
           (c .before .before .before .before .if1 .left)),
+      (steps-fewer (c .before .before .before .before .before .before .before .before .args .query .now)
+          (c .before .before .before .before .before .before .before .before .args .path)),
     )
 
 nth-nth-over-requires : (t : ℕ) → nth-lts.Need-nth-over-requires (
@@ -236,6 +232,8 @@ nth-nth-over-requires t c κs = (
     (step-left (c .before .before .before .before .before .before .before .before .pre .1)
         (c .before .before .before .before .before .steps .ensures)
         (c .before .before .before .before .if1 .left)),
+    (steps-fewer (c .before .before .before .before .before .before .before .before .args .query .now)
+        (c .before .before .before .before .before .before .before .before .args .path)),
   ),
   walk-part
       (c .before .before .before .before .before .before .before .before .pre .1)
@@ -254,16 +252,14 @@ nth-returns-4 : (t : ℕ) → nth-lts.Need-returns-4 (
   nth-over.Post,
 ) (nth-at t) nth.Post
 nth-returns-4 t c =
-    tells-part (c .before .before .before .before .before .before .before .before .before .args .q .now)
-    (c .before .before .before .before .before .before .before .before .before .args .p)
-    (c .before .before .before .before .before .before .before .before .before .args .e)
+    tells-part (c .before .before .before .before .before .before .before .before .before .args .query .now)
+    (c .before .before .before .before .before .before .before .before .before .args .path)
     (c .before .before .before .before .before .before .before .before .before .args .i)
-    (c .before .before .before .before .before .before .before .before .before .args .s .now)
-    (c .before .before .before .before .before .before .before .before .before .args .a)
-    (c .before .before .before .before .before .before .before .before .before .args .b)
-    (λ x. ElementIs (c .before .before .before .before .before .before .before .before .before .args .s .now)
-    (c .before .before .before .before .before .before .before .before .before .args .a)
-    (c .before .before .before .before .before .before .before .before .before .args .b)
+    (c .before .before .before .before .before .before .before .before .before .args .area .now)
+    (c .before .before .before .before .before .before .before .before .before .args .tree .from)
+    (c .before .before .before .before .before .before .before .before .before .args .tree .to)
+    (λ x. ElementIs (c .before .before .before .before .before .before .before .before .before .args .area .now)
+    (c .before .before .before .before .before .before .before .before .before .args .tree)
     (c .before .before .before .before .before .before .before .before .before .args .j) (given x)
     (c .nth-over .result)) (step-left
     (c .before .before .before .before .before .before .before .before .before .pre .1)
@@ -278,13 +274,14 @@ nth-returns-4 t c =
     (c .nth-over .ensures path ts g h))
 
 abbrev nth-over-Inv-loop : nth-over-lts.InvT-loop
-nth-over-Inv-loop q p e i s a b j left₀ at₀ left at =
-    Walk treesBytes q p e i s at b
-    × ((r : Element) → TellsJoined q p e i s at b (λ x. ElementIs s at b left (given x) r) →
-    TellsJoined q p e i s a b (λ x. ElementIs s a b j (given x) r))
+nth-over-Inv-loop query path i area j end left₀ at₀ left at =
+    Walk treesBytes query path i area (span at end)
+    × ((r : Element) → TellsJoined query path i area (span at end)
+    (λ x. ElementIs area (span at end) left (given x) r) → TellsJoined query path i area
+    (span at₀ end) (λ x. ElementIs area (span at₀ end) j (given x) r))
 
 abbrev nth-over-μ-loop : nth-over-lts.MeasureT-loop
-nth-over-μ-loop q p e i s a b j left₀ at₀ left at = b - at
+nth-over-μ-loop query path i area j end left₀ at₀ left at = end - at
 
 nth-over-loop-holds : (t : ℕ) → nth-over-lts.Need-loop-holds (
   field-end-reads.Asked,
@@ -338,26 +335,23 @@ nth-over-returns : (t : ℕ) → nth-over-lts.Need-returns (
   nth.Post,
 ) (nth-over-at t) nth-over.Post nth-over-Inv-loop nth-over-μ-loop
 nth-over-returns t c =
-    over-given (c .before .before .before .before .before .before .before .before .args .q .now)
-    (c .before .before .before .before .before .before .before .before .args .p)
-    (c .before .before .before .before .before .before .before .before .args .e)
+    over-given (c .before .before .before .before .before .before .before .before .args .query .now)
+    (c .before .before .before .before .before .before .before .before .args .path)
     (c .before .before .before .before .before .before .before .before .args .i)
-    (c .before .before .before .before .before .before .before .before .args .s .now)
-    (c .before .before .before .before .before .before .before .before .args .a)
-    (c .before .before .before .before .before .before .before .before .args .b)
-    (λ l. ElementIs (c .before .before .before .before .before .before .before .before .args .s .now)
-    (c .before .before .before .before .before .before .before .before .args .a)
-    (c .before .before .before .before .before .before .before .before .args .b)
+    (c .before .before .before .before .before .before .before .before .args .area .now)
+    (c .before .before .before .before .before .before .before .before .args .trees .from)
+    (c .before .before .before .before .before .before .before .before .args .trees .to)
+    (λ l. ElementIs (c .before .before .before .before .before .before .before .before .args .area .now)
+    (c .before .before .before .before .before .before .before .before .args .trees)
     (c .before .before .before .before .before .before .before .before .args .j) l
     (c .before .before .nth .result))
     (c .before .before .before .before .before .loop .inv .1 (c .before .before .nth .result)
-    (element-here (c .before .before .before .before .before .before .before .before .args .q .now)
-    (c .before .before .before .before .before .before .before .before .args .p)
-    (c .before .before .before .before .before .before .before .before .args .e)
+    (element-here (c .before .before .before .before .before .before .before .before .args .query .now)
+    (c .before .before .before .before .before .before .before .before .args .path)
     (c .before .before .before .before .before .before .before .before .args .i)
-    (c .before .before .before .before .before .before .before .before .args .s .now)
+    (c .before .before .before .before .before .before .before .before .args .area .now)
     (c .before .before .before .before .before .loop .at)
-    (c .before .before .before .before .before .before .before .before .args .b)
+    (c .before .before .before .before .before .before .before .before .args .trees .to)
     (c .before .before .before .before .before .loop .left)
     (c .before .before .before .before .loop-test .taken)
     (c .before .before .before .field-end .ensures)
@@ -398,13 +392,12 @@ nth-over-loop-again t c = (
       (c .before .before .before .before .field-end .ensures),
   λ r h.
       c .before .before .before .before .before .before .loop .inv .1 r
-      (element-next (c .before .before .before .before .before .before .before .before .before .args .q .now)
-      (c .before .before .before .before .before .before .before .before .before .args .p)
-      (c .before .before .before .before .before .before .before .before .before .args .e)
+      (element-next (c .before .before .before .before .before .before .before .before .before .args .query .now)
+      (c .before .before .before .before .before .before .before .before .before .args .path)
       (c .before .before .before .before .before .before .before .before .before .args .i)
-      (c .before .before .before .before .before .before .before .before .before .args .s .now)
+      (c .before .before .before .before .before .before .before .before .before .args .area .now)
       (c .before .before .before .before .before .before .loop .at)
-      (c .before .before .before .before .before .before .before .before .before .args .b)
+      (c .before .before .before .before .before .before .before .before .before .args .trees .to)
       (c .before .before .before .before .before .before .loop .left)
       (c .before .before .before .before .before .loop-test .taken)
       (c .before .before .before .before .field-end .ensures)
@@ -427,18 +420,19 @@ nth-over-returns-2 : (t : ℕ) → nth-over-lts.Need-returns-2 (
   nth.Post,
 ) (nth-over-at t) nth-over.Post nth-over-Inv-loop nth-over-μ-loop
 nth-over-returns-2 t c =
-    over-given (c .before .before .before .before .args .q .now)
-    (c .before .before .before .before .args .p) (c .before .before .before .before .args .e)
-    (c .before .before .before .before .args .i) (c .before .before .before .before .args .s .now)
-    (c .before .before .before .before .args .a) (c .before .before .before .before .args .b)
-    (λ l. ElementIs (c .before .before .before .before .args .s .now)
-    (c .before .before .before .before .args .a) (c .before .before .before .before .args .b)
-    (c .before .before .before .before .args .j) l (Fewer (c .before .loop .left)))
+    over-given (c .before .before .before .before .args .query .now)
+    (c .before .before .before .before .args .path) (c .before .before .before .before .args .i)
+    (c .before .before .before .before .args .area .now)
+    (c .before .before .before .before .args .trees .from)
+    (c .before .before .before .before .args .trees .to)
+    (λ l. ElementIs (c .before .before .before .before .args .area .now)
+    (c .before .before .before .before .args .trees) (c .before .before .before .before .args .j) l
+    (Fewer (c .before .loop .left)))
     (c .before .loop .inv .1 (Fewer (c .before .loop .left))
-    (element-end (c .before .before .before .before .args .q .now)
-    (c .before .before .before .before .args .p) (c .before .before .before .before .args .e)
-    (c .before .before .before .before .args .i) (c .before .before .before .before .args .s .now)
-    (c .before .loop .at) (c .before .before .before .before .args .b) (c .before .loop .left)
+    (element-end (c .before .before .before .before .args .query .now)
+    (c .before .before .before .before .args .path) (c .before .before .before .before .args .i)
+    (c .before .before .before .before .args .area .now) (c .before .loop .at)
+    (c .before .before .before .before .args .trees .to) (c .before .loop .left)
     (c .loop-test .left)))
 
 pub +nth+nth-over-spec : {M : Type 1} → statement M
@@ -454,7 +448,7 @@ pub +nth+nth-over-spec : {M : Type 1} → statement M
     nth.Post
     (nth-steps-requires t)
     (nth-returns t)
-    (nth-sub-t15 t)
+    (nth-sub-t12 t)
     (nth-returns-2 t)
     (nth-under-requires t)
     (nth-enum-known-found t)

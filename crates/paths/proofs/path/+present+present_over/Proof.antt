@@ -5,8 +5,9 @@ use mathlib.Core.Path.{_≡_, refl, _∙_}
 use mathlib.Core.Bool.{Bool, true, false}
 use Prim.Native.Nat.{_+_, _*_, _-_}
 use Rattle.format.specs.Stand.{treesBytes}
-use Rattle.queries.specs.Steps.{stepCount}
 use Rattle.spec_stages.specs.Paths as paths
+use Rattle.areas.specs.Area.{span}
+use Rattle.queries.specs.StepLaws.{steps-fewer}
 use Rattle.paths.specs.Walk.{Walk, TellsJoined}
 use Rattle.paths.specs.WalkLaws.{
   tells-end,
@@ -16,7 +17,7 @@ use Rattle.paths.specs.WalkLaws.{
   over-some,
   joined-end,
   walk-inside,
-  walk-order,
+  walk-room,
   walk-part,
   walk-first,
   walk-rest,
@@ -43,10 +44,10 @@ use Rattle.paths.proofs.path.+present+present_over.{statement}
 use Rattle.paths.proofs.path.+present+present_over.Tie.{close}
 
 abbrev μ-present : Measures 2 present-kinds.ps ℕ
-μ-present κs a = 2 * (stepCount (a .1 .0) (a .1 .1 .0) - a .1 .1 .1 .0)
+μ-present κs a = 2 * (a .1 .0 .to - a .1 .1 .0)
 
 abbrev μ-present-over : Measures 2 present-over-kinds.ps ℕ
-μ-present-over κs a = 2 * (stepCount (a .1 .0) (a .1 .1 .0) - a .1 .1 .1 .0) + 1
+μ-present-over κs a = 2 * (a .1 .0 .to - a .1 .1 .0) + 1
 
 abbrev present-at : ℕ → In 2 present-kinds.ps
 present-at t = and 2 present-kinds.ps (is 2 present-kinds.ps μ-present t) present.Pre
@@ -74,7 +75,7 @@ present-steps-requires : (t : ℕ) → present-lts.Need-steps-requires (
   present-over-below t,
   present-over.Post,
 ) (present-at t) present.Post
-present-steps-requires t c κs = walk-order (c .before .before .pre .1)
+present-steps-requires t c κs = walk-room (c .before .before .pre .1)
 
 present-returns : (t : ℕ) → present-lts.Need-returns (
   steps-reads.Asked,
@@ -85,12 +86,12 @@ present-returns : (t : ℕ) → present-lts.Need-returns (
   present-over.Post,
 ) (present-at t) present.Post
 present-returns t c =
-    tells-end (c .before .before .before .before .args .q .now)
-    (c .before .before .before .before .args .p) (c .before .before .before .before .args .e)
-    (c .before .before .before .before .args .i) (c .before .before .before .before .args .s .now)
-    (c .before .before .before .before .args .a) (c .before .before .before .before .args .b)
-    (λ x. true ≡ paths.present x) (c .if1 .taken ∙ c .before .steps .ensures)
-    (λ t h. present-some _)
+    tells-end (c .before .before .before .before .args .query .now)
+    (c .before .before .before .before .args .path) (c .before .before .before .before .args .i)
+    (c .before .before .before .before .args .area .now)
+    (c .before .before .before .before .args .tree .from)
+    (c .before .before .before .before .args .tree .to) (λ x. true ≡ paths.present x)
+    (c .if1 .taken ∙ c .before .steps .ensures) (λ t h. present-some _)
 
 present-under-requires : (t : ℕ) → present-lts.Need-under-requires (
   steps-reads.Asked,
@@ -136,13 +137,12 @@ present-returns-2 : (t : ℕ) → present-lts.Need-returns-2 (
   present-over.Post,
 ) (present-at t) present.Post
 present-returns-2 t c =
-    tells-missing (c .before .before .before .before .before .before .before .args .q .now)
-    (c .before .before .before .before .before .before .before .args .p)
-    (c .before .before .before .before .before .before .before .args .e)
+    tells-missing (c .before .before .before .before .before .before .before .args .query .now)
+    (c .before .before .before .before .before .before .before .args .path)
     (c .before .before .before .before .before .before .before .args .i)
-    (c .before .before .before .before .before .before .before .args .s .now)
-    (c .before .before .before .before .before .before .before .args .a)
-    (c .before .before .before .before .before .before .before .args .b)
+    (c .before .before .before .before .before .before .before .args .area .now)
+    (c .before .before .before .before .before .before .before .args .tree .from)
+    (c .before .before .before .before .before .before .before .args .tree .to)
     (λ x. false ≡ paths.present x)
     (step-left (c .before .before .before .before .before .before .before .pre .1)
     (c .before .before .before .before .steps .ensures) (c .before .before .before .if1 .left))
@@ -163,6 +163,8 @@ present-add-present-over t c =
           (c .before .before .before .before .before .before .before .before .pre .1)
           (c .before .before .before .before .before .steps .ensures)
           (c .before .before .before .before .if1 .left)),
+      (steps-fewer (c .before .before .before .before .before .before .before .before .args .query .now)
+          (c .before .before .before .before .before .before .before .before .args .path)),
     )
 
 present-present-over-requires : (t : ℕ) → present-lts.Need-present-over-requires (
@@ -180,6 +182,8 @@ present-present-over-requires t c κs = (
     (step-left (c .before .before .before .before .before .before .before .before .pre .1)
         (c .before .before .before .before .before .steps .ensures)
         (c .before .before .before .before .if1 .left)),
+    (steps-fewer (c .before .before .before .before .before .before .before .before .args .query .now)
+        (c .before .before .before .before .before .before .before .before .args .path)),
   ),
   walk-part
       (c .before .before .before .before .before .before .before .before .pre .1)
@@ -198,13 +202,12 @@ present-returns-3 : (t : ℕ) → present-lts.Need-returns-3 (
   present-over.Post,
 ) (present-at t) present.Post
 present-returns-3 t c =
-    tells-part (c .before .before .before .before .before .before .before .before .before .args .q .now)
-    (c .before .before .before .before .before .before .before .before .before .args .p)
-    (c .before .before .before .before .before .before .before .before .before .args .e)
+    tells-part (c .before .before .before .before .before .before .before .before .before .args .query .now)
+    (c .before .before .before .before .before .before .before .before .before .args .path)
     (c .before .before .before .before .before .before .before .before .before .args .i)
-    (c .before .before .before .before .before .before .before .before .before .args .s .now)
-    (c .before .before .before .before .before .before .before .before .before .args .a)
-    (c .before .before .before .before .before .before .before .before .before .args .b)
+    (c .before .before .before .before .before .before .before .before .before .args .area .now)
+    (c .before .before .before .before .before .before .before .before .before .args .tree .from)
+    (c .before .before .before .before .before .before .before .before .before .args .tree .to)
     (λ x. c .present-over .result ≡ paths.present x)
     (step-left (c .before .before .before .before .before .before .before .before .before .pre .1)
     (c .before .before .before .before .before .before .steps .ensures)
@@ -213,13 +216,13 @@ present-returns-3 t c =
     (c .present-over .ensures)
 
 abbrev present-over-Inv-loop : present-over-lts.InvT-loop
-present-over-Inv-loop q p e i s a b at₀ at =
-    Walk treesBytes q p e i s at b
-    × ((r : Bool) → TellsJoined q p e i s at b (λ x. r ≡ paths.present x) → TellsJoined q p e i s a
-    b (λ x. r ≡ paths.present x))
+present-over-Inv-loop query path i area end at₀ at =
+    Walk treesBytes query path i area (span at end)
+    × ((r : Bool) → TellsJoined query path i area (span at end) (λ x. r ≡ paths.present x) →
+    TellsJoined query path i area (span at₀ end) (λ x. r ≡ paths.present x))
 
 abbrev present-over-μ-loop : present-over-lts.MeasureT-loop
-present-over-μ-loop q p e i s a b at₀ at = b - at
+present-over-μ-loop query path i area end at₀ at = end - at
 
 present-over-returns : (t : ℕ) → present-over-lts.Need-returns (
   field-end-reads.Asked,
@@ -228,11 +231,10 @@ present-over-returns : (t : ℕ) → present-over-lts.Need-returns (
   present.Post,
 ) (present-over-at t) present-over.Post present-over-Inv-loop present-over-μ-loop
 present-over-returns t c =
-    over-none (c .before .before .before .args .q .now) (c .before .before .before .args .p)
-    (c .before .before .before .args .e) (c .before .before .before .args .i)
-    (c .before .before .before .args .s .now) (c .before .before .before .args .a)
-    (c .before .before .before .args .b) (λ x. true ≡ paths.present x) (c .if1 .taken)
-    (present-some _)
+    over-none (c .before .before .before .args .query .now) (c .before .before .before .args .path)
+    (c .before .before .before .args .i) (c .before .before .before .args .area .now)
+    (c .before .before .before .args .trees .from) (c .before .before .before .args .trees .to)
+    (λ x. true ≡ paths.present x) (c .if1 .taken) (present-some _)
 
 present-over-loop-holds : (t : ℕ) → present-over-lts.Need-loop-holds (
   field-end-reads.Asked,
@@ -270,22 +272,20 @@ present-over-returns-2 : (t : ℕ) → present-over-lts.Need-returns-2 (
   present.Post,
 ) (present-over-at t) present-over.Post present-over-Inv-loop present-over-μ-loop
 present-over-returns-2 t c =
-    over-some (c .before .before .before .before .before .before .before .before .args .q .now)
-    (c .before .before .before .before .before .before .before .before .args .p)
-    (c .before .before .before .before .before .before .before .before .args .e)
+    over-some (c .before .before .before .before .before .before .before .before .args .query .now)
+    (c .before .before .before .before .before .before .before .before .args .path)
     (c .before .before .before .before .before .before .before .before .args .i)
-    (c .before .before .before .before .before .before .before .before .args .s .now)
-    (c .before .before .before .before .before .before .before .before .args .a)
-    (c .before .before .before .before .before .before .before .before .args .b)
+    (c .before .before .before .before .before .before .before .before .args .area .now)
+    (c .before .before .before .before .before .before .before .before .args .trees .from)
+    (c .before .before .before .before .before .before .before .before .args .trees .to)
     (λ x. true ≡ paths.present x) (c .before .before .before .before .before .if1 .left)
     (c .before .before .before .before .loop .inv .1 true
-    (present-here (c .before .before .before .before .before .before .before .before .args .q .now)
-    (c .before .before .before .before .before .before .before .before .args .p)
-    (c .before .before .before .before .before .before .before .before .args .e)
+    (present-here (c .before .before .before .before .before .before .before .before .args .query .now)
+    (c .before .before .before .before .before .before .before .before .args .path)
     (c .before .before .before .before .before .before .before .before .args .i)
-    (c .before .before .before .before .before .before .before .before .args .s .now)
+    (c .before .before .before .before .before .before .before .before .args .area .now)
     (c .before .before .before .before .loop .at)
-    (c .before .before .before .before .before .before .before .before .args .b)
+    (c .before .before .before .before .before .before .before .before .args .trees .to)
     (c .before .before .before .loop-test .taken) (c .before .before .field-end .ensures)
     (c .before .present .ensures) (c .if2 .taken)))
 
@@ -313,13 +313,12 @@ present-over-loop-again t c = (
       (c .before .before .before .loop-test .taken) (c .before .before .field-end .ensures),
   λ r h.
       c .before .before .before .before .loop .inv .1 r
-      (present-next (c .before .before .before .before .before .before .before .before .args .q .now)
-      (c .before .before .before .before .before .before .before .before .args .p)
-      (c .before .before .before .before .before .before .before .before .args .e)
+      (present-next (c .before .before .before .before .before .before .before .before .args .query .now)
+      (c .before .before .before .before .before .before .before .before .args .path)
       (c .before .before .before .before .before .before .before .before .args .i)
-      (c .before .before .before .before .before .before .before .before .args .s .now)
+      (c .before .before .before .before .before .before .before .before .args .area .now)
       (c .before .before .before .before .loop .at)
-      (c .before .before .before .before .before .before .before .before .args .b)
+      (c .before .before .before .before .before .before .before .before .args .trees .to)
       (c .before .before .before .loop-test .taken) (c .before .before .field-end .ensures)
       (c .before .present .ensures) (c .if2 .left) r h),
 )
@@ -331,21 +330,19 @@ present-over-returns-3 : (t : ℕ) → present-over-lts.Need-returns-3 (
   present.Post,
 ) (present-over-at t) present-over.Post present-over-Inv-loop present-over-μ-loop
 present-over-returns-3 t c =
-    over-some (c .before .before .before .before .before .args .q .now)
-    (c .before .before .before .before .before .args .p)
-    (c .before .before .before .before .before .args .e)
+    over-some (c .before .before .before .before .before .args .query .now)
+    (c .before .before .before .before .before .args .path)
     (c .before .before .before .before .before .args .i)
-    (c .before .before .before .before .before .args .s .now)
-    (c .before .before .before .before .before .args .a)
-    (c .before .before .before .before .before .args .b) (λ x. false ≡ paths.present x)
+    (c .before .before .before .before .before .args .area .now)
+    (c .before .before .before .before .before .args .trees .from)
+    (c .before .before .before .before .before .args .trees .to) (λ x. false ≡ paths.present x)
     (c .before .before .if1 .left)
     (c .before .loop .inv .1 false
-    (joined-end (c .before .before .before .before .before .args .q .now)
-    (c .before .before .before .before .before .args .p)
-    (c .before .before .before .before .before .args .e)
+    (joined-end (c .before .before .before .before .before .args .query .now)
+    (c .before .before .before .before .before .args .path)
     (c .before .before .before .before .before .args .i)
-    (c .before .before .before .before .before .args .s .now) (c .before .loop .at)
-    (c .before .before .before .before .before .args .b) (λ x. false ≡ paths.present x)
+    (c .before .before .before .before .before .args .area .now) (c .before .loop .at)
+    (c .before .before .before .before .before .args .trees .to) (λ x. false ≡ paths.present x)
     (c .loop-test .left) present-none))
 
 pub +present+present-over-spec : {M : Type 1} → statement M

@@ -2,8 +2,9 @@
 use native.Mathlib.Omega.{arith}
 use mathlib.Core.Path.{subst}
 use mathlib.Core.Bool.{cond}
-use Rattle.areas.specs.Area.{Is}
-use Rattle.format.specs.Stand.{treesBytes, Holds}
+use Rattle.areas.specs.Area.{IsAt}
+use Rattle.format.specs.Stand.{treesBytes}
+use Rattle.queries.specs.Places.{HoldsAt}
 use Rattle.areas.specs.AreaLaws.{is-part}
 use borrow.Author.Needs.{needs}
 use Rattle.paths.proofs.path.operand.Statement.{statement}
@@ -21,17 +22,16 @@ part-result-end : tie.Need-part-result-end
 part-result-end c =
     omega (
       arith,
-      (subst (λ b. Holds treesBytes
-          (cond b (c .before .args .q .now) (c .before .args .s .now)) (c .before .args .f)
-          (c .before .args .t)) (c .if1 .taken) (c .before .pre)) .value-is .inside,
+      (subst (λ b. HoldsAt treesBytes
+          (cond b (c .before .args .query .now) (c .before .args .area .now)) (c .before .args .trees))
+          (c .if1 .taken) (c .before .pre)) .value-is .inside,
     )
 
 returns : tie.Need-returns
 returns c =
-    λ ts h. is-part (subst (λ b. Is
-    (cond b (c .before .before .args .q .now) (c .before .before .args .s .now))
-    (c .before .before .args .f) (c .before .before .args .t) (treesBytes ts))
-    (c .before .if1 .taken) h)
+    λ ts h. is-part (subst (λ b. IsAt
+    (cond b (c .before .before .args .query .now) (c .before .before .args .area .now))
+    (c .before .before .args .trees) (treesBytes ts)) (c .before .if1 .taken) h)
 
 sub-result-2 : tie.Need-sub-result-2
 sub-result-2 c = search needs
@@ -43,17 +43,16 @@ part-result-end-2 : tie.Need-part-result-end-2
 part-result-end-2 c =
     omega (
       arith,
-      (subst (λ b. Holds treesBytes
-          (cond b (c .before .args .q .now) (c .before .args .s .now)) (c .before .args .f)
-          (c .before .args .t)) (c .if1 .left) (c .before .pre)) .value-is .inside,
+      (subst (λ b. HoldsAt treesBytes
+          (cond b (c .before .args .query .now) (c .before .args .area .now)) (c .before .args .trees))
+          (c .if1 .left) (c .before .pre)) .value-is .inside,
     )
 
 returns-2 : tie.Need-returns-2
 returns-2 c =
-    λ ts h. is-part (subst (λ b. Is
-    (cond b (c .before .before .args .q .now) (c .before .before .args .s .now))
-    (c .before .before .args .f) (c .before .before .args .t) (treesBytes ts))
-    (c .before .if1 .left) h)
+    λ ts h. is-part (subst (λ b. IsAt
+    (cond b (c .before .before .args .query .now) (c .before .before .args .area .now))
+    (c .before .before .args .trees) (treesBytes ts)) (c .before .if1 .left) h)
 
 pub operand-spec : {M : Type 1} → statement M
 operand-spec =

@@ -1,8 +1,7 @@
 -- Made from Proof.ans by answers.py, which overwrites this file: edit Proof.ans.
 use mathlib.Core.Path.{sym, _∙_}
-use Rattle.paths.specs.WalkLaws.{step-left, walk-inside}
+use Rattle.paths.specs.WalkLaws.{step-left, walk-inside, walk-room}
 use Rattle.paths.specs.OperandLaws.{piece-whole, piece-under}
-use borrow.Author.Needs.{needs}
 use Rattle.paths.proofs.path.piece.Statement.{statement}
 use Rattle.paths.proofs.path.piece.Tie as tie
 use Rattle.paths.proofs.path.piece.Reads as reads
@@ -11,14 +10,16 @@ use Rattle.paths.proofs.path.under.Reads as under-reads
 use Rattle.queries.proofs.path.steps.Reads as steps-reads
 
 steps-requires : tie.Need-steps-requires
-steps-requires c κs = search needs
+steps-requires c κs = walk-room (c .before .before .pre .0)
 
 returns : tie.Need-returns
 returns c =
-    piece-whole (c .before .before .before .before .args .q .now)
-    (c .before .before .before .before .args .p) (c .before .before .before .before .args .e)
-    (c .before .before .before .before .args .s .now) (c .before .before .before .before .args .a)
-    (c .before .before .before .before .args .b) (sym (c .if1 .taken) ∙ c .before .steps .ensures)
+    piece-whole (c .before .before .before .before .args .query .now)
+    (c .before .before .before .before .args .path)
+    (c .before .before .before .before .args .area .now)
+    (c .before .before .before .before .args .tree .from)
+    (c .before .before .before .before .args .tree .to)
+    (sym (c .if1 .taken) ∙ c .before .steps .ensures)
 
 under-requires : tie.Need-under-requires
 under-requires c κs = (
@@ -30,12 +31,11 @@ under-requires c κs = (
 
 returns-2 : tie.Need-returns-2
 returns-2 c =
-    piece-under (c .before .before .before .before .before .args .q .now)
-    (c .before .before .before .before .before .args .p)
-    (c .before .before .before .before .before .args .e)
-    (c .before .before .before .before .before .args .s .now)
-    (c .before .before .before .before .before .args .a)
-    (c .before .before .before .before .before .args .b)
+    piece-under (c .before .before .before .before .before .args .query .now)
+    (c .before .before .before .before .before .args .path)
+    (c .before .before .before .before .before .args .area .now)
+    (c .before .before .before .before .before .args .tree .from)
+    (c .before .before .before .before .before .args .tree .to)
     (step-left (c .before .before .before .before .before .pre .0)
     (c .before .before .steps .ensures) (λ z. c .before .if1 .left (sym z)))
     (c .before .before .before .before .before .pre .1) (c .under .ensures)

@@ -16,10 +16,11 @@ sub-if1 c = search needs
 
 returns : tie.Need-returns
 returns c =
-    stands-short (c .before .before .before .args .s .now) (c .before .before .before .args .a)
-    (c .before .before .before .args .b) (c .before .before .before .args .o .now)
-    (c .before .before .before .args .at) (c .before .before .before .pre .0)
-    (c .before .before .before .pre .1) (c .before .before .before .pre .2) (c .if1 .taken)
+    stands-short (c .before .before .before .args .area .now)
+    (c .before .before .before .args .part .from) (c .before .before .before .args .part .to)
+    (c .before .before .before .args .other .now) (c .before .before .before .args .at)
+    (c .before .before .before .pre .0) (c .before .before .before .pre .1)
+    (c .before .before .before .pre .2) (c .if1 .taken)
 
 sub-same-bytes : tie.Need-sub-same-bytes
 sub-same-bytes c = search needs
@@ -45,15 +46,15 @@ part-same-bytes-end-2 c = search needs
 same-bytes-requires : tie.Need-same-bytes-requires
 same-bytes-requires c κs = search needs
 
-add-t18 : tie.Need-add-t18
-add-t18 c = search needs
+add-t19 : tie.Need-add-t19
+add-t19 c = search needs
 
 returns-2 : tie.Need-returns-2
 returns-2 c =
-    stands-same (c .before .before .before .before .before .before .before .args .s .now)
-    (c .before .before .before .before .before .before .before .args .a)
-    (c .before .before .before .before .before .before .before .args .b)
-    (c .before .before .before .before .before .before .before .args .o .now)
+    stands-same (c .before .before .before .before .before .before .before .args .area .now)
+    (c .before .before .before .before .before .before .before .args .part .from)
+    (c .before .before .before .before .before .before .before .args .part .to)
+    (c .before .before .before .before .before .before .before .args .other .now)
     (c .before .before .before .before .before .before .before .args .at)
     (c .before .before .before .before .before .before .before .pre .0)
     (c .before .before .before .before .before .before .before .pre .1)
@@ -62,10 +63,10 @@ returns-2 c =
 
 returns-3 : tie.Need-returns-3
 returns-3 c =
-    stands-other (c .before .before .before .before .before .before .before .args .s .now)
-    (c .before .before .before .before .before .before .before .args .a)
-    (c .before .before .before .before .before .before .before .args .b)
-    (c .before .before .before .before .before .before .before .args .o .now)
+    stands-other (c .before .before .before .before .before .before .before .args .area .now)
+    (c .before .before .before .before .before .before .before .args .part .from)
+    (c .before .before .before .before .before .before .before .args .part .to)
+    (c .before .before .before .before .before .before .before .args .other .now)
     (c .before .before .before .before .before .before .before .args .at)
     (c .before .before .before .before .before .before .before .pre .0)
     (c .before .before .before .before .before .before .before .pre .1)
@@ -87,6 +88,6 @@ stands-at-spec =
     part-same-bytes-start-2
     part-same-bytes-end-2
     same-bytes-requires
-    add-t18
+    add-t19
     returns-2
     returns-3)

@@ -16,23 +16,23 @@ add-field-end : tie.Need-add-field-end
 add-field-end c = search needs
 
 field-end-requires : tie.Need-field-end-requires
-field-end-requires c κs = omega (arith, tree-places (c .before .before .pre .1) refl)
+field-end-requires c κs = omega (arith, tree-places (c .before .before .before .pre .1) refl)
 
 step-at-requires : tie.Need-step-at-requires
 step-at-requires c κs = search needs
 
 find-requires : tie.Need-find-requires
 find-requires c κs =
-    holds-labels (c .before .before .before .before .pre .1) (c .before .field-end .ensures)
+    holds-labels (c .before .before .before .before .before .pre .1) (c .before .field-end .ensures)
 
 returns : tie.Need-returns
 returns c =
-    under-found (c .before .before .before .before .before .args .q .now)
-    (c .before .before .before .before .before .args .p)
-    (c .before .before .before .before .before .args .i)
-    (c .before .before .before .before .before .args .s .now)
-    (c .before .before .before .before .before .args .a)
-    (c .before .before .before .before .before .args .b) (c .find .result)
+    under-found (c .before .before .before .before .before .before .args .query .now)
+    (c .before .before .before .before .before .before .args .path)
+    (c .before .before .before .before .before .before .args .i)
+    (c .before .before .before .before .before .before .args .area .now)
+    (c .before .before .before .before .before .before .args .tree .from)
+    (c .before .before .before .before .before .before .args .tree .to) (c .find .result)
     (c .before .before .field-end .ensures) (c .before .step-at .ensures) (c .find .ensures)
 
 pub under-spec : {M : Type 1} → statement M

@@ -7,12 +7,13 @@ use Prim.Native.Nat.{ℕ, _+_, _*_, _-_}
 use lib.ListN.{length}
 use Rattle.areas.specs.declared.area.Out.{Out}
 use Rattle.format.specs.Stand.{treesBytes}
-use Rattle.format.specs.StandLaws.{trees-places}
-use Rattle.queries.specs.Steps.{stepCount}
+use Rattle.format.specs.StandLaws.{heads-most, trees-places}
+use Rattle.areas.specs.Area.{span}
+use Rattle.queries.specs.StepLaws.{steps-fewer}
 use Rattle.place.specs.Writers.{WriterReady}
 use Rattle.place.specs.Kept.{KeepsEach}
 use Rattle.place.specs.WriterLaws.{
-  along-order,
+  along-room,
   along-inside,
   along-small,
   step-before,
@@ -20,8 +21,8 @@ use Rattle.place.specs.WriterLaws.{
   ready-labels,
   ready-array,
   ready-first,
-  steps-less,
 }
+use Rattle.place.specs.PlaceLaws.{behind-at}
 use Rattle.place.specs.KeptLaws.{
   keep-end,
   keep-missing,
@@ -45,6 +46,7 @@ use Rattle.place.proofs.keep.+keep+keep_each.Lts-keep_each as keep-each
 use Rattle.areas.proofs.area.copy.Reads as copy-reads
 use Rattle.areas.proofs.area.field_end.Reads as field-end-reads
 use Rattle.format.proofs.labels.find.Reads as find-reads
+use Rattle.format.proofs.labels.heads.Reads as heads-reads
 use Rattle.place.proofs.place.put_void.Reads as put-void-reads
 use Rattle.place.proofs.place.wrap.Reads as wrap-reads
 use Rattle.queries.proofs.path.step_at.Reads as step-at-reads
@@ -53,10 +55,10 @@ use Rattle.place.proofs.keep.+keep+keep_each.{statement}
 use Rattle.place.proofs.keep.+keep+keep_each.Tie.{close}
 
 abbrev μ-keep : Measures 2 keep-kinds.ps ℕ
-μ-keep κs a = 2 * (stepCount (a .1 .1 .0) (a .1 .1 .1 .0) - a .1 .1 .1 .1 .0)
+μ-keep κs a = 2 * (a .1 .1 .0 .to - a .1 .1 .1 .0)
 
 abbrev μ-keep-each : Measures 2 keep-each-kinds.ps ℕ
-μ-keep-each κs a = 2 * (stepCount (a .1 .1 .0) (a .1 .1 .1 .0) - a .1 .1 .1 .1 .0) + 1
+μ-keep-each κs a = 2 * (a .1 .1 .0 .to - a .1 .1 .1 .0) + 1
 
 abbrev keep-at : ℕ → In 2 keep-kinds.ps
 keep-at t = and 2 keep-kinds.ps (is 2 keep-kinds.ps μ-keep t) keep.Pre
@@ -84,12 +86,14 @@ keep-steps-requires : (t : ℕ) → keep-lts.Need-steps-requires (
   find-reads.Learnt,
   put-void-reads.Asked,
   put-void-reads.Learnt,
+  heads-reads.Asked,
+  heads-reads.Learnt,
   keep-each-below t,
   keep-each.Post,
   wrap-reads.Asked,
   wrap-reads.Learnt,
 ) (keep-at t) keep.Post
-keep-steps-requires t c κs = along-order ((c .before .before .pre .1) .along)
+keep-steps-requires t c κs = along-room ((c .before .before .pre .1) .along)
 
 keep-copy-requires : (t : ℕ) → keep-lts.Need-copy-requires (
   steps-reads.Asked,
@@ -104,6 +108,8 @@ keep-copy-requires : (t : ℕ) → keep-lts.Need-copy-requires (
   find-reads.Learnt,
   put-void-reads.Asked,
   put-void-reads.Learnt,
+  heads-reads.Asked,
+  heads-reads.Learnt,
   keep-each-below t,
   keep-each.Post,
   wrap-reads.Asked,
@@ -131,6 +137,8 @@ keep-same-length : (t : ℕ) → keep-lts.Need-same-length (
   find-reads.Learnt,
   put-void-reads.Asked,
   put-void-reads.Learnt,
+  heads-reads.Asked,
+  heads-reads.Learnt,
   keep-each-below t,
   keep-each.Post,
   wrap-reads.Asked,
@@ -151,6 +159,8 @@ keep-returns : (t : ℕ) → keep-lts.Need-returns (
   find-reads.Learnt,
   put-void-reads.Asked,
   put-void-reads.Learnt,
+  heads-reads.Asked,
+  heads-reads.Learnt,
   keep-each-below t,
   keep-each.Post,
   wrap-reads.Asked,
@@ -173,6 +183,8 @@ keep-step-at-requires : (t : ℕ) → keep-lts.Need-step-at-requires (
   find-reads.Learnt,
   put-void-reads.Asked,
   put-void-reads.Learnt,
+  heads-reads.Asked,
+  heads-reads.Learnt,
   keep-each-below t,
   keep-each.Post,
   wrap-reads.Asked,
@@ -197,13 +209,19 @@ keep-add-field-end : (t : ℕ) → keep-lts.Need-add-field-end (
   find-reads.Learnt,
   put-void-reads.Asked,
   put-void-reads.Learnt,
+  heads-reads.Asked,
+  heads-reads.Learnt,
   keep-each-below t,
   keep-each.Post,
   wrap-reads.Asked,
   wrap-reads.Learnt,
 ) (keep-at t) keep.Post
 keep-add-field-end t c =
-    omega (arith, ready-places (c .before .before .before .before .before .before .pre .1) refl)
+    omega (
+      arith,
+      ready-places (c .before .before .before .before .before .before .before .pre .1)
+          refl,
+    )
 
 keep-field-end-requires : (t : ℕ) → keep-lts.Need-field-end-requires (
   steps-reads.Asked,
@@ -218,13 +236,19 @@ keep-field-end-requires : (t : ℕ) → keep-lts.Need-field-end-requires (
   find-reads.Learnt,
   put-void-reads.Asked,
   put-void-reads.Learnt,
+  heads-reads.Asked,
+  heads-reads.Learnt,
   keep-each-below t,
   keep-each.Post,
   wrap-reads.Asked,
   wrap-reads.Learnt,
 ) (keep-at t) keep.Post
 keep-field-end-requires t c κs =
-    omega (arith, ready-places (c .before .before .before .before .before .before .pre .1) refl)
+    omega (
+      arith,
+      ready-places (c .before .before .before .before .before .before .before .pre .1)
+          refl,
+    )
 
 keep-find-requires : (t : ℕ) → keep-lts.Need-find-requires (
   steps-reads.Asked,
@@ -239,13 +263,15 @@ keep-find-requires : (t : ℕ) → keep-lts.Need-find-requires (
   find-reads.Learnt,
   put-void-reads.Asked,
   put-void-reads.Learnt,
+  heads-reads.Asked,
+  heads-reads.Learnt,
   keep-each-below t,
   keep-each.Post,
   wrap-reads.Asked,
   wrap-reads.Learnt,
 ) (keep-at t) keep.Post
 keep-find-requires t c κs =
-    ready-labels (c .before .before .before .before .before .before .before .before .pre .1)
+    ready-labels (c .before .before .before .before .before .before .before .before .before .pre .1)
     (c .before .field-end .ensures)
 
 keep-enum-known-found : (t : ℕ) → keep-lts.Need-enum-known-found (
@@ -261,6 +287,8 @@ keep-enum-known-found : (t : ℕ) → keep-lts.Need-enum-known-found (
   find-reads.Learnt,
   put-void-reads.Asked,
   put-void-reads.Learnt,
+  heads-reads.Asked,
+  heads-reads.Learnt,
   keep-each-below t,
   keep-each.Post,
   wrap-reads.Asked,
@@ -281,6 +309,8 @@ keep-enum-told : (t : ℕ) → keep-lts.Need-enum-told (
   find-reads.Learnt,
   put-void-reads.Asked,
   put-void-reads.Learnt,
+  heads-reads.Asked,
+  heads-reads.Learnt,
   keep-each-below t,
   keep-each.Post,
   wrap-reads.Asked,
@@ -301,14 +331,16 @@ keep-put-void-requires : (t : ℕ) → keep-lts.Need-put-void-requires (
   find-reads.Learnt,
   put-void-reads.Asked,
   put-void-reads.Learnt,
+  heads-reads.Asked,
+  heads-reads.Learnt,
   keep-each-below t,
   keep-each.Post,
   wrap-reads.Asked,
   wrap-reads.Learnt,
 ) (keep-at t) keep.Post
 keep-put-void-requires t c κs = (
-  (c .before .before .before .before .before .before .before .before .before .before .before .before .pre .1) .room,
-  (c .before .before .before .before .before .before .before .before .before .before .before .before .pre .1) .inside,
+  (c .before .before .before .before .before .before .before .before .before .before .before .before .before .pre .1) .room,
+  (c .before .before .before .before .before .before .before .before .before .before .before .before .before .pre .1) .inside,
 )
 
 keep-same-length-2 : (t : ℕ) → keep-lts.Need-same-length-2 (
@@ -324,6 +356,8 @@ keep-same-length-2 : (t : ℕ) → keep-lts.Need-same-length-2 (
   find-reads.Learnt,
   put-void-reads.Asked,
   put-void-reads.Learnt,
+  heads-reads.Asked,
+  heads-reads.Learnt,
   keep-each-below t,
   keep-each.Post,
   wrap-reads.Asked,
@@ -344,23 +378,74 @@ keep-returns-2 : (t : ℕ) → keep-lts.Need-returns-2 (
   find-reads.Learnt,
   put-void-reads.Asked,
   put-void-reads.Learnt,
+  heads-reads.Asked,
+  heads-reads.Learnt,
   keep-each-below t,
   keep-each.Post,
   wrap-reads.Asked,
   wrap-reads.Learnt,
 ) (keep-at t) keep.Post
 keep-returns-2 t c =
-    keep-missing (c .before .before .before .before .before .before .before .before .before .before .before .before .before .before .before .args .q .now)
-    (c .before .before .before .before .before .before .before .before .before .before .before .before .before .before .before .args .p)
-    (c .before .before .before .before .before .before .before .before .before .before .before .before .before .before .before .args .e)
-    (c .before .before .before .before .before .before .before .before .before .before .before .before .before .before .before .args .i)
-    (step-before ((c .before .before .before .before .before .before .before .before .before .before .before .before .before .before .before .pre .1) .step)
-    (c .before .before .before .before .before .before .before .before .before .before .before .before .steps .ensures)
-    (c .before .before .before .before .before .before .before .before .before .before .before .if1 .left))
-    (c .before .before .before .before .before .before .before .before .before .before .step-at .ensures)
+    keep-missing (c .before .before .before .before .before .before .before .before .before .before .before .before .before .before .before .before .args .query .now)
+    (c .before .before .before .before .before .before .before .before .before .before .before .before .before .before .before .before .args .path)
+    (c .before .before .before .before .before .before .before .before .before .before .before .before .before .before .before .before .args .i)
+    (step-before ((c .before .before .before .before .before .before .before .before .before .before .before .before .before .before .before .before .pre .1) .step)
+    (c .before .before .before .before .before .before .before .before .before .before .before .before .before .steps .ensures)
+    (c .before .before .before .before .before .before .before .before .before .before .before .before .if1 .left))
+    (c .before .before .before .before .before .before .before .before .before .before .before .step-at .ensures)
     (c .before .before .before .before .before .before .before .before .field-end .ensures)
     (c .before .before .before .before .before .before .find .ensures)
     (c .before .before .before .before .enum-told .given .1) (c .before .before .put-void .ensures)
+
+keep-heads-requires : (t : ℕ) → keep-lts.Need-heads-requires (
+  steps-reads.Asked,
+  steps-reads.Learnt,
+  copy-reads.Asked,
+  copy-reads.Learnt,
+  step-at-reads.Asked,
+  step-at-reads.Learnt,
+  field-end-reads.Asked,
+  field-end-reads.Learnt,
+  find-reads.Asked,
+  find-reads.Learnt,
+  put-void-reads.Asked,
+  put-void-reads.Learnt,
+  heads-reads.Asked,
+  heads-reads.Learnt,
+  keep-each-below t,
+  keep-each.Post,
+  wrap-reads.Asked,
+  wrap-reads.Learnt,
+) (keep-at t) keep.Post
+keep-heads-requires t c κs = search needs
+
+keep-add-n : (t : ℕ) → keep-lts.Need-add-n (
+  steps-reads.Asked,
+  steps-reads.Learnt,
+  copy-reads.Asked,
+  copy-reads.Learnt,
+  step-at-reads.Asked,
+  step-at-reads.Learnt,
+  field-end-reads.Asked,
+  field-end-reads.Learnt,
+  find-reads.Asked,
+  find-reads.Learnt,
+  put-void-reads.Asked,
+  put-void-reads.Learnt,
+  heads-reads.Asked,
+  heads-reads.Learnt,
+  keep-each-below t,
+  keep-each.Post,
+  wrap-reads.Asked,
+  wrap-reads.Learnt,
+) (keep-at t) keep.Post
+keep-add-n t c =
+    omega (
+      arith,
+      c .heads .ensures,
+      heads-most
+          (c .before .before .before .before .before .before .before .before .before .step-at .result),
+    )
 
 keep-sub-if2 : (t : ℕ) → keep-lts.Need-sub-if2 (
   steps-reads.Asked,
@@ -375,13 +460,15 @@ keep-sub-if2 : (t : ℕ) → keep-lts.Need-sub-if2 (
   find-reads.Learnt,
   put-void-reads.Asked,
   put-void-reads.Learnt,
+  heads-reads.Asked,
+  heads-reads.Learnt,
   keep-each-below t,
   keep-each.Post,
   wrap-reads.Asked,
   wrap-reads.Learnt,
 ) (keep-at t) keep.Post
 keep-sub-if2 t c =
-    omega (arith, (c .before .before .before .before .before .before .before .before .before .before .before .before .pre .1) .room)
+    omega (arith, (c .before .before .before .before .before .before .before .before .before .before .before .before .before .before .before .pre .1) .room)
 
 keep-same-length-3 : (t : ℕ) → keep-lts.Need-same-length-3 (
   steps-reads.Asked,
@@ -396,6 +483,8 @@ keep-same-length-3 : (t : ℕ) → keep-lts.Need-same-length-3 (
   find-reads.Learnt,
   put-void-reads.Asked,
   put-void-reads.Learnt,
+  heads-reads.Asked,
+  heads-reads.Learnt,
   keep-each-below t,
   keep-each.Post,
   wrap-reads.Asked,
@@ -416,29 +505,54 @@ keep-returns-3 : (t : ℕ) → keep-lts.Need-returns-3 (
   find-reads.Learnt,
   put-void-reads.Asked,
   put-void-reads.Learnt,
+  heads-reads.Asked,
+  heads-reads.Learnt,
   keep-each-below t,
   keep-each.Post,
   wrap-reads.Asked,
   wrap-reads.Learnt,
 ) (keep-at t) keep.Post
 keep-returns-3 t c =
-    keep-no-room (c .before .before .before .before .before .before .before .before .before .before .before .before .before .args .q .now)
-    (c .before .before .before .before .before .before .before .before .before .before .before .before .before .args .p)
-    (c .before .before .before .before .before .before .before .before .before .before .before .before .before .args .e)
-    (c .before .before .before .before .before .before .before .before .before .before .before .before .before .args .i)
-    (step-before ((c .before .before .before .before .before .before .before .before .before .before .before .before .before .pre .1) .step)
-    (c .before .before .before .before .before .before .before .before .before .before .steps .ensures)
-    (c .before .before .before .before .before .before .before .before .before .if1 .left))
-    (c .before .before .before .before .before .before .before .before .step-at .ensures)
-    (c .before .before .before .before .before .before .field-end .ensures)
-    (c .before .before .before .before .find .ensures) (c .before .before .found .given .1)
-    (c .before .before .before .before .before .before .before .before .before .before .before .before .before .args .d)
-    (c .before .before .before .before .before .before .before .before .before .before .before .before .before .args .stop)
+    keep-no-room (c .before .before .before .before .before .before .before .before .before .before .before .before .before .before .before .before .args .query .now)
+    (c .before .before .before .before .before .before .before .before .before .before .before .before .before .before .before .before .args .path)
+    (c .before .before .before .before .before .before .before .before .before .before .before .before .before .before .before .before .args .i)
+    (step-before ((c .before .before .before .before .before .before .before .before .before .before .before .before .before .before .before .before .pre .1) .step)
+    (c .before .before .before .before .before .before .before .before .before .before .before .before .before .steps .ensures)
+    (c .before .before .before .before .before .before .before .before .before .before .before .before .if1 .left))
+    (c .before .before .before .before .before .before .before .before .before .before .before .step-at .ensures)
+    (c .before .before .before .before .before .before .before .before .field-end .ensures)
+    (c .before .before .before .before .before .before .find .ensures)
+    (c .before .before .before .before .found .given .1)
+    (c .before .before .before .before .before .before .before .before .before .before .before .before .before .before .before .before .args .room .from)
+    (c .before .before .before .before .before .before .before .before .before .before .before .before .before .before .before .before .args .room .to)
     (omega (
       arith,
-      (c .before .before .before .before .before .before .before .before .before .before .before .before .before .pre .1) .room,
+      (c .before .before .before .before .before .before .before .before .before .before .before .before .before .before .before .before .pre .1) .room,
       c .if2 .taken,
+      c .before .before .heads .ensures,
     ))
+
+keep-add-t14 : (t : ℕ) → keep-lts.Need-add-t14 (
+  steps-reads.Asked,
+  steps-reads.Learnt,
+  copy-reads.Asked,
+  copy-reads.Learnt,
+  step-at-reads.Asked,
+  step-at-reads.Learnt,
+  field-end-reads.Asked,
+  field-end-reads.Learnt,
+  find-reads.Asked,
+  find-reads.Learnt,
+  put-void-reads.Asked,
+  put-void-reads.Learnt,
+  heads-reads.Asked,
+  heads-reads.Learnt,
+  keep-each-below t,
+  keep-each.Post,
+  wrap-reads.Asked,
+  wrap-reads.Learnt,
+) (keep-at t) keep.Post
+keep-add-t14 t c = search needs
 
 keep-add-keep-each : (t : ℕ) → keep-lts.Need-add-keep-each (
   steps-reads.Asked,
@@ -453,6 +567,8 @@ keep-add-keep-each : (t : ℕ) → keep-lts.Need-add-keep-each (
   find-reads.Learnt,
   put-void-reads.Asked,
   put-void-reads.Learnt,
+  heads-reads.Asked,
+  heads-reads.Learnt,
   keep-each-below t,
   keep-each.Post,
   wrap-reads.Asked,
@@ -462,35 +578,11 @@ keep-add-keep-each t c =
     omega (
       arith,
       (step-before
-          ((c .before .before .before .before .before .before .before .before .before .before .before .before .before .before .pre .1) .step)
-          (c .before .before .before .before .before .before .before .before .before .before .before .steps .ensures)
-          (c .before .before .before .before .before .before .before .before .before .before .if1 .left)),
-    )
-
-keep-add-keep-each-2 : (t : ℕ) → keep-lts.Need-add-keep-each-2 (
-  steps-reads.Asked,
-  steps-reads.Learnt,
-  copy-reads.Asked,
-  copy-reads.Learnt,
-  step-at-reads.Asked,
-  step-at-reads.Learnt,
-  field-end-reads.Asked,
-  field-end-reads.Learnt,
-  find-reads.Asked,
-  find-reads.Learnt,
-  put-void-reads.Asked,
-  put-void-reads.Learnt,
-  keep-each-below t,
-  keep-each.Post,
-  wrap-reads.Asked,
-  wrap-reads.Learnt,
-) (keep-at t) keep.Post
-keep-add-keep-each-2 t c =
-    omega (
-      arith,
-      (c .before .before .before .before .before .before .before .before .before .before .before .before .before .before .pre .1) .room,
-      (c .before .before .before .before .before .before .before .before .before .before .before .before .before .before .pre .1) .inside,
-      c .before .if2 .left,
+          ((c .before .before .before .before .before .before .before .before .before .before .before .before .before .before .before .before .before .before .pre .1) .step)
+          (c .before .before .before .before .before .before .before .before .before .before .before .before .before .before .before .steps .ensures)
+          (c .before .before .before .before .before .before .before .before .before .before .before .before .before .before .if1 .left)),
+      (steps-fewer (c .before .before .before .before .before .before .before .before .before .before .before .before .before .before .before .before .before .before .args .query .now)
+          (c .before .before .before .before .before .before .before .before .before .before .before .before .before .before .before .before .before .before .args .path)),
     )
 
 keep-keep-each-requires : (t : ℕ) → keep-lts.Need-keep-each-requires (
@@ -506,29 +598,36 @@ keep-keep-each-requires : (t : ℕ) → keep-lts.Need-keep-each-requires (
   find-reads.Learnt,
   put-void-reads.Asked,
   put-void-reads.Learnt,
+  heads-reads.Asked,
+  heads-reads.Learnt,
   keep-each-below t,
   keep-each.Post,
   wrap-reads.Asked,
   wrap-reads.Learnt,
 ) (keep-at t) keep.Post
 keep-keep-each-requires t c κs = (
-  steps-less (step-before
-      ((c .before .before .before .before .before .before .before .before .before .before .before .before .before .before .pre .1) .step)
-      (c .before .before .before .before .before .before .before .before .before .before .before .steps .ensures)
-      (c .before .before .before .before .before .before .before .before .before .before .if1 .left))
-      (c .before .before .before .before .before .before .before .before .before .before .before .before .before .before .pre .0),
-  (ready-array (c .before .before .before .before .before .before .before .before .before .before .before .before .before .before .pre .1)
-      (c .before .before .before .before .before .before .before .before .before .step-at .result) 13
-      (step-before ((c .before .before .before .before .before .before .before .before .before .before .before .before .before .before .pre .1) .step)
-      (c .before .before .before .before .before .before .before .before .before .before .before .steps .ensures)
-      (c .before .before .before .before .before .before .before .before .before .before .if1 .left))
-      (c .before .before .before .before .before .before .before .field-end .ensures)
-      (c .before .before .before .before .before .find .ensures)
-      (c .before .before .before .found .given .1)
+  omega (
+    arith,
+    c .before .before .before .before .before .before .before .before .before .before .before .before .before .before .before .before .before .before .pre .0,
+    (step-before ((c .before .before .before .before .before .before .before .before .before .before .before .before .before .before .before .before .before .before .pre .1) .step)
+        (c .before .before .before .before .before .before .before .before .before .before .before .before .before .before .before .steps .ensures)
+        (c .before .before .before .before .before .before .before .before .before .before .before .before .before .before .if1 .left)),
+    (steps-fewer (c .before .before .before .before .before .before .before .before .before .before .before .before .before .before .before .before .before .before .args .query .now)
+        (c .before .before .before .before .before .before .before .before .before .before .before .before .before .before .before .before .before .before .args .path)),
+  ),
+  (ready-array (c .before .before .before .before .before .before .before .before .before .before .before .before .before .before .before .before .before .before .pre .1)
+      (c .before .before .before .before .before .before .before .before .before .before .before .before .before .step-at .result)
+      (6 + c .before .before .before .before .heads .result)
+      (step-before ((c .before .before .before .before .before .before .before .before .before .before .before .before .before .before .before .before .before .before .pre .1) .step)
+      (c .before .before .before .before .before .before .before .before .before .before .before .before .before .before .before .steps .ensures)
+      (c .before .before .before .before .before .before .before .before .before .before .before .before .before .before .if1 .left))
+      (c .before .before .before .before .before .before .before .before .before .before .field-end .ensures)
+      (c .before .before .before .before .before .before .before .before .find .ensures)
+      (c .before .before .before .before .before .before .found .given .1)
       (omega (
         arith,
-        (c .before .before .before .before .before .before .before .before .before .before .before .before .before .before .pre .1) .room,
-        c .before .if2 .left,
+        (c .before .before .before .before .before .before .before .before .before .before .before .before .before .before .before .before .before .before .pre .1) .room,
+        c .before .before .if2 .left,
       ))),
 )
 
@@ -545,47 +644,53 @@ keep-wrap-requires : (t : ℕ) → keep-lts.Need-wrap-requires (
   find-reads.Learnt,
   put-void-reads.Asked,
   put-void-reads.Learnt,
+  heads-reads.Asked,
+  heads-reads.Learnt,
   keep-each-below t,
   keep-each.Post,
   wrap-reads.Asked,
   wrap-reads.Learnt,
 ) (keep-at t) keep.Post
 keep-wrap-requires t c κs = (
-  kept-behind (ready-array
-      (c .before .before .before .before .before .before .before .before .before .before .before .before .before .before .before .before .before .before .pre .1)
-      (c .before .before .before .before .before .before .before .before .before .before .before .before .before .step-at .result)
-      13 (step-before ((c .before .before .before .before .before .before .before .before .before .before .before .before .before .before .before .before .before .before .pre .1) .step)
-      (c .before .before .before .before .before .before .before .before .before .before .before .before .before .before .before .steps .ensures)
-      (c .before .before .before .before .before .before .before .before .before .before .before .before .before .before .if1 .left))
-      (c .before .before .before .before .before .before .before .before .before .before .before .field-end .ensures)
-      (c .before .before .before .before .before .before .before .before .before .find .ensures)
-      (c .before .before .before .before .before .before .before .found .given .1)
+  behind-at (c .before .before .before .keep-each .last .0)
+      (omega (arith, c .before .before .before .before .before .before .before .before .heads .ensures))
+      (kept-behind (ready-array
+      (c .before .before .before .before .before .before .before .before .before .before .before .before .before .before .before .before .before .before .before .before .before .before .pre .1)
+      (c .before .before .before .before .before .before .before .before .before .before .before .before .before .before .before .before .before .step-at .result)
+      (6 + c .before .before .before .before .before .before .before .before .heads .result)
+      (step-before ((c .before .before .before .before .before .before .before .before .before .before .before .before .before .before .before .before .before .before .before .before .before .before .pre .1) .step)
+      (c .before .before .before .before .before .before .before .before .before .before .before .before .before .before .before .before .before .before .before .steps .ensures)
+      (c .before .before .before .before .before .before .before .before .before .before .before .before .before .before .before .before .before .before .if1 .left))
+      (c .before .before .before .before .before .before .before .before .before .before .before .before .before .before .field-end .ensures)
+      (c .before .before .before .before .before .before .before .before .before .before .before .before .find .ensures)
+      (c .before .before .before .before .before .before .before .before .before .before .found .given .1)
       (omega (
         arith,
-        (c .before .before .before .before .before .before .before .before .before .before .before .before .before .before .before .before .before .before .pre .1) .room,
-        c .before .before .before .before .before .if2 .left,
+        (c .before .before .before .before .before .before .before .before .before .before .before .before .before .before .before .before .before .before .before .before .before .before .pre .1) .room,
+        c .before .before .before .before .before .before .if2 .left,
       )))
       (c .before .before .before .keep-each .ensures)
-      (c .before .before .before .keep-each .kept .0),
+      (c .before .before .before .keep-each .kept .0)),
   omega (
     arith,
-    c .before .before .before .before .before .before .before .before .before .before .before .before .before .step-at .ensures,
-    along-small ((c .before .before .before .before .before .before .before .before .before .before .before .before .before .before .before .before .before .before .pre .1) .along)
-        (c .before .before .before .before .before .before .before .before .before .before .before .before .before .before .before .before .before .before .args .i)
-        (step-before ((c .before .before .before .before .before .before .before .before .before .before .before .before .before .before .before .before .before .before .pre .1) .step)
-        (c .before .before .before .before .before .before .before .before .before .before .before .before .before .before .before .steps .ensures)
-        (c .before .before .before .before .before .before .before .before .before .before .before .before .before .before .if1 .left)),
+    c .before .before .before .before .before .before .before .before .before .before .before .before .before .before .before .before .before .step-at .ensures,
+    along-small ((c .before .before .before .before .before .before .before .before .before .before .before .before .before .before .before .before .before .before .before .before .before .before .pre .1) .along)
+        (c .before .before .before .before .before .before .before .before .before .before .before .before .before .before .before .before .before .before .before .before .before .before .args .i)
+        (step-before ((c .before .before .before .before .before .before .before .before .before .before .before .before .before .before .before .before .before .before .before .before .before .before .pre .1) .step)
+        (c .before .before .before .before .before .before .before .before .before .before .before .before .before .before .before .before .before .before .before .steps .ensures)
+        (c .before .before .before .before .before .before .before .before .before .before .before .before .before .before .before .before .before .before .if1 .left)),
   ),
   omega (
     arith,
-    (c .before .before .before .before .before .before .before .before .before .before .before .before .before .before .before .before .before .before .pre .1) .room,
-    c .before .before .before .before .before .if2 .left,
-    (c .before .before .before .before .before .before .before .before .before .before .before .before .before .before .before .before .before .before .pre .1) .inside,
+    (c .before .before .before .before .before .before .before .before .before .before .before .before .before .before .before .before .before .before .before .before .before .before .pre .1) .room,
+    c .before .before .before .before .before .before .if2 .left,
+    (c .before .before .before .before .before .before .before .before .before .before .before .before .before .before .before .before .before .before .before .before .before .before .pre .1) .inside,
     c .before .before .before .keep-each .kept .0,
+    c .before .before .before .before .before .before .before .before .heads .ensures,
   ),
   omega (
     arith,
-    (c .before .before .before .before .before .before .before .before .before .before .before .before .before .before .before .before .before .before .pre .1) .small,
+    (c .before .before .before .before .before .before .before .before .before .before .before .before .before .before .before .before .before .before .before .before .before .before .pre .1) .small,
     c .before .before .before .keep-each .kept .0,
   ),
 )
@@ -603,6 +708,8 @@ keep-same-length-4 : (t : ℕ) → keep-lts.Need-same-length-4 (
   find-reads.Learnt,
   put-void-reads.Asked,
   put-void-reads.Learnt,
+  heads-reads.Asked,
+  heads-reads.Learnt,
   keep-each-below t,
   keep-each.Post,
   wrap-reads.Asked,
@@ -623,41 +730,44 @@ keep-returns-4 : (t : ℕ) → keep-lts.Need-returns-4 (
   find-reads.Learnt,
   put-void-reads.Asked,
   put-void-reads.Learnt,
+  heads-reads.Asked,
+  heads-reads.Learnt,
   keep-each-below t,
   keep-each.Post,
   wrap-reads.Asked,
   wrap-reads.Learnt,
 ) (keep-at t) keep.Post
 keep-returns-4 t c =
-    keep-part (c .before .before .before .before .before .before .before .before .before .before .before .before .before .before .before .before .before .before .before .before .before .args .q .now)
-    (c .before .before .before .before .before .before .before .before .before .before .before .before .before .before .before .before .before .before .before .before .before .args .p)
-    (c .before .before .before .before .before .before .before .before .before .before .before .before .before .before .before .before .before .before .before .before .before .args .e)
-    (c .before .before .before .before .before .before .before .before .before .before .before .before .before .before .before .before .before .before .before .before .before .args .i)
-    (step-before ((c .before .before .before .before .before .before .before .before .before .before .before .before .before .before .before .before .before .before .before .before .before .pre .1) .step)
-    (c .before .before .before .before .before .before .before .before .before .before .before .before .before .before .before .before .before .before .steps .ensures)
-    (c .before .before .before .before .before .before .before .before .before .before .before .before .before .before .before .before .before .if1 .left))
-    (c .before .before .before .before .before .before .before .before .before .before .before .before .before .before .before .before .step-at .ensures)
-    (c .before .before .before .before .before .before .before .before .before .before .before .before .before .before .field-end .ensures)
-    (c .before .before .before .before .before .before .before .before .before .before .before .before .find .ensures)
-    (c .before .before .before .before .before .before .before .before .before .before .found .given .1)
-    (c .before .before .before .before .before .before .before .before .before .before .before .before .before .before .before .before .before .before .before .before .before .args .stop)
+    keep-part (c .before .before .before .before .before .before .before .before .before .before .before .before .before .before .before .before .before .before .before .before .before .before .before .before .before .args .query .now)
+    (c .before .before .before .before .before .before .before .before .before .before .before .before .before .before .before .before .before .before .before .before .before .before .before .before .before .args .path)
+    (c .before .before .before .before .before .before .before .before .before .before .before .before .before .before .before .before .before .before .before .before .before .before .before .before .before .args .i)
+    (step-before ((c .before .before .before .before .before .before .before .before .before .before .before .before .before .before .before .before .before .before .before .before .before .before .before .before .before .pre .1) .step)
+    (c .before .before .before .before .before .before .before .before .before .before .before .before .before .before .before .before .before .before .before .before .before .before .steps .ensures)
+    (c .before .before .before .before .before .before .before .before .before .before .before .before .before .before .before .before .before .before .before .before .before .if1 .left))
+    (c .before .before .before .before .before .before .before .before .before .before .before .before .before .before .before .before .before .before .before .before .step-at .ensures)
+    (c .before .before .before .before .before .before .before .before .before .before .before .before .before .before .before .before .before .field-end .ensures)
+    (c .before .before .before .before .before .before .before .before .before .before .before .before .before .before .before .find .ensures)
+    (c .before .before .before .before .before .before .before .before .before .before .before .before .before .found .given .1)
+    (c .before .before .before .before .before .before .before .before .before .before .before .before .before .before .before .before .before .before .before .before .before .before .before .before .before .args .room .to)
+    (omega (arith, c .before .before .before .before .before .before .before .before .before .before .before .heads .ensures))
     (omega (
       arith,
-      (c .before .before .before .before .before .before .before .before .before .before .before .before .before .before .before .before .before .before .before .before .before .pre .1) .room,
-      c .before .before .before .before .before .before .before .before .if2 .left,
-      (c .before .before .before .before .before .before .before .before .before .before .before .before .before .before .before .before .before .before .before .before .before .pre .1) .inside,
+      (c .before .before .before .before .before .before .before .before .before .before .before .before .before .before .before .before .before .before .before .before .before .before .before .before .before .pre .1) .room,
+      c .before .before .before .before .before .before .before .before .before .if2 .left,
+      (c .before .before .before .before .before .before .before .before .before .before .before .before .before .before .before .before .before .before .before .before .before .before .before .before .before .pre .1) .inside,
     ))
     (c .before .before .before .before .before .before .keep-each .ensures)
     (c .before .before .wrap .ensures)
 
 abbrev keep-each-Inv-loop : keep-each-lts.InvT-loop
-keep-each-Inv-loop w₀ q p e i a b d stop x₀ at₀ w x at =
-    WriterReady treesBytes w q p e i x b at stop × (length w ≡ length w₀)
-    × ((v : List ℕ) (r : Out) → KeepsEach w v q p e i x b at stop r → KeepsEach w₀ v q p e i a b d
-    stop r)
+keep-each-Inv-loop work₀ query path i end stop from₀ at₀ work from at =
+    WriterReady treesBytes work query path i (span from end) (span at stop) ×
+    (length work ≡ length work₀)
+    × ((v : List ℕ) (r : Out) → KeepsEach work v query path i (span from end) (span at stop) r →
+    KeepsEach work₀ v query path i (span from₀ end) (span at₀ stop) r)
 
 abbrev keep-each-μ-loop : keep-each-lts.MeasureT-loop
-keep-each-μ-loop w₀ q p e i a b d stop x₀ at₀ w x at = b - x
+keep-each-μ-loop work₀ query path i end stop from₀ at₀ work from at = end - from
 
 keep-each-loop-holds : (t : ℕ) → keep-each-lts.Need-loop-holds (
   field-end-reads.Asked,
@@ -806,6 +916,8 @@ pub +keep+keep-each-spec : {M : Type 1} → statement M
   find-reads.Learnt,
   put-void-reads.Asked,
   put-void-reads.Learnt,
+  heads-reads.Asked,
+  heads-reads.Learnt,
   keep-each-below t,
   keep-each.Post,
   wrap-reads.Asked,
@@ -826,11 +938,13 @@ pub +keep+keep-each-spec : {M : Type 1} → statement M
     (keep-put-void-requires t)
     (keep-same-length-2 t)
     (keep-returns-2 t)
+    (keep-heads-requires t)
+    (keep-add-n t)
     (keep-sub-if2 t)
     (keep-same-length-3 t)
     (keep-returns-3 t)
+    (keep-add-t14 t)
     (keep-add-keep-each t)
-    (keep-add-keep-each-2 t)
     (keep-keep-each-requires t)
     (keep-wrap-requires t)
     (keep-same-length-4 t)

@@ -8,15 +8,15 @@ use Rattle.place.proofs.place.wrap.Tie as tie
 use Rattle.place.proofs.place.wrap.Reads as reads
 use Rattle.place.proofs.place.wrap.Lts as lts
 use Rattle.areas.proofs.area.put_head.Reads as put-head-reads
-use Rattle.place.proofs.place.entry.Reads as entry-reads
+use Rattle.format.proofs.labels.entry.Reads as entry-reads
 
 add-entry : tie.Need-add-entry
 add-entry c = search needs
 
 entry-requires : tie.Need-entry-requires
 entry-requires c κs = (
-  behind-entry (c .before .before .args .w .now) (c .before .before .args .d)
-      (c .before .before .pre .0),
+  behind-entry (c .before .before .args .work .now) (c .before .before .args .at)
+      (c .before .before .args .label) (c .before .before .pre .0),
   c .before .before .pre .1,
   c .before .before .pre .3,
 )
@@ -32,7 +32,7 @@ same-length c = search needs
 
 returns : tie.Need-returns
 returns c =
-    large-entry (c .before .before .before .before .before .before .before .args .k)
+    large-entry (c .before .before .before .before .before .before .before .args .label)
     (c .before .before .before .before .entry .ensures) (c .enum-told .given .1)
 
 add-put-head : tie.Need-add-put-head
@@ -61,7 +61,7 @@ same-length-2 c = search needs
 
 returns-2 : tie.Need-returns-2
 returns-2 c =
-    headed-under (c .before .before .before .before .before .before .before .before .before .before .before .before .before .before .before .before .args .k)
+    headed-under (c .before .before .before .before .before .before .before .before .before .before .before .before .before .before .before .before .args .label)
     ((c .before .before .before .before .before .before .before .before .before .before .before .before .before .before .before .before .pre .0
     (c .before .before .before .before .before .before .before .before .before .inner .given .0 .0)
     (sym (c .before .before .before .before .before .before .before .before .before .before .before .before .before .entry .ensures .same)

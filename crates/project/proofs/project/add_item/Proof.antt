@@ -8,18 +8,18 @@ use Rattle.project.proofs.project.add_item.Lts as lts
 use Rattle.build.proofs.part.add_written.Reads as add-written-reads
 use Rattle.project.proofs.project.write_item.Reads as write-item-reads
 
-add-i : tie.Need-add-i
-add-i c = search needs
+add-from : tie.Need-add-from
+add-from c = search needs
 
-add-write-item : tie.Need-add-write-item
-add-write-item c = search needs
+add-t9 : tie.Need-add-t9
+add-t9 c = search needs
 
 write-item-requires : tie.Need-write-item-requires
-write-item-requires c κs = item-ready (c .before .before .before .pre)
+write-item-requires c κs = item-ready (c .before .before .before .before .pre)
 
 add-written-requires : tie.Need-add-written-requires
 add-written-requires c κs =
-    item-adding (c .before .before .before .before .before .before .before .pre)
+    item-adding (c .before .before .before .before .before .before .before .before .pre)
     (c .before .before .before .write-item .kept .0)
     (c .before .before .before .write-item .ensures)
 
@@ -28,7 +28,7 @@ same-length c = search needs
 
 returns : tie.Need-returns
 returns c =
-    item-added (c .before .before .before .before .before .before .before .before .before .before .pre)
+    item-added (c .before .before .before .before .before .before .before .before .before .before .before .pre)
     (c .before .before .before .before .before .before .write-item .kept .0)
     (c .before .before .before .before .before .before .write-item .ensures)
     (c .before .before .add-written .ensures)
@@ -36,4 +36,4 @@ returns c =
 pub add-item-spec : {M : Type 1} → statement M
 add-item-spec =
     tie.close
-    (tie.spec add-i add-write-item write-item-requires add-written-requires same-length returns)
+    (tie.spec add-from add-t9 write-item-requires add-written-requires same-length returns)

@@ -8,6 +8,7 @@ use lib.ListN.{length}
 use Rattle.areas.specs.declared.area.Out.{Out}
 use Rattle.spec_trees.specs.Lists.{All}
 use Rattle.spec_queries.specs.Rules.{OkI}
+use Rattle.areas.specs.Area.{span}
 use Rattle.queries.specs.Places.{itemsBytes}
 use Rattle.project.specs.Project.{Building, BuildsFrom}
 use Rattle.project.specs.ProjectLaws.{
@@ -29,13 +30,14 @@ use Rattle.build.proofs.part.begin.Reads as begin-reads
 use Rattle.project.proofs.project.add_item.Reads as add-item-reads
 
 abbrev Inv-loop : tie.InvT-loop
-Inv-loop w₀ q c ce a b s se₀ at₀ w se at =
-    Building (All OkI) itemsBytes w q at ce a b s se × (length w ≡ length w₀)
-    × ((v : List ℕ) (r : Out) → BuildsFrom w v q at ce a b s se r → BuildsFrom w₀ v q c ce a b s
-    se₀ r)
+Inv-loop work₀ query tree at end to₀ from₀ work to from =
+    Building (All OkI) itemsBytes work query (span from end) tree (span at to) ×
+    (length work ≡ length work₀)
+    × ((v : List ℕ) (r : Out) → BuildsFrom work v query (span from end) tree (span at to) r →
+    BuildsFrom work₀ v query (span from₀ end) tree (span at to₀) r)
 
 abbrev μ-loop : tie.MeasureT-loop
-μ-loop w₀ q c ce a b s se₀ at₀ w se at = ce - at
+μ-loop work₀ query tree at end to₀ from₀ work to from = end - from
 
 begin-requires : tie.Need-begin-requires Inv-loop μ-loop
 begin-requires c κs = omega (arith, c .before .before .before .pre .room)
@@ -110,9 +112,9 @@ same-length-2 c = search needs
 returns-2 : tie.Need-returns-2 Inv-loop μ-loop
 returns-2 c =
     project-from (c .before .before .before .before .before .before .before .before .pre)
-    (c .before .before .before .before .begin .ensures) (c .before .loop .w)
-    (Out.At (c .before .loop .se))
-    (c .before .loop .inv .2 (c .before .loop .w) (Out.At (c .before .loop .se))
+    (c .before .before .before .before .begin .ensures) (c .before .loop .work)
+    (Out.At (c .before .loop .to))
+    (c .before .loop .inv .2 (c .before .loop .work) (Out.At (c .before .loop .to))
     (items-done (c .loop-test .left)))
 
 pub project-spec : {M : Type 1} → statement M

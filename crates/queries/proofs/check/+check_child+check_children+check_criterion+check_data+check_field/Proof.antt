@@ -68,19 +68,19 @@ use Rattle.queries.proofs.check.+check_child+check_children+check_crite
 }
 
 abbrev μ-check-child : Measures 1 check-child-kinds.ps ℕ
-μ-check-child κs a = 4 * (a .1 .1 .1 .1 .1 .0 - a .1 .1 .1 .1 .0) + 3
+μ-check-child κs a = 4 * (a .1 .1 .1 .1 .0 .to - a .1 .1 .1 .1 .0 .from) + 3
 
 abbrev μ-check-children : Measures 1 check-children-kinds.ps ℕ
-μ-check-children κs a = 4 * (a .1 .1 .1 .0 - a .1 .1 .0)
+μ-check-children κs a = 4 * (a .1 .1 .0 .to - a .1 .1 .0 .from)
 
 abbrev μ-check-criterion : Measures 1 check-criterion-kinds.ps ℕ
-μ-check-criterion κs a = 4 * (a .1 .1 .1 .0 - a .1 .1 .0) + 1
+μ-check-criterion κs a = 4 * (a .1 .1 .0 .to - a .1 .1 .0 .from) + 1
 
 abbrev μ-check-data : Measures 1 check-data-kinds.ps ℕ
-μ-check-data κs a = 4 * (a .1 .1 .1 .0 - a .1 .1 .0) + 1
+μ-check-data κs a = 4 * (a .1 .1 .0 .to - a .1 .1 .0 .from) + 1
 
 abbrev μ-check-field : Measures 1 check-field-kinds.ps ℕ
-μ-check-field κs a = 4 * (a .1 .1 .1 .0 - a .1 .1 .0) + 2
+μ-check-field κs a = 4 * (a .1 .1 .0 .to - a .1 .1 .0 .from) + 2
 
 abbrev check-child-at : ℕ → In 1 check-child-kinds.ps
 check-child-at t =
@@ -161,10 +161,11 @@ check-child-returns : (t : ℕ) → check-child-lts.Need-returns (
   check-field.Post,
 ) (check-child-at t) check-child.Post
 check-child-returns t c =
-    sym (child-over (c .before .before .before .args .left) (c .before .before .before .args .n)
-    (c .before .before .before .args .rule) (c .before .before .before .args .tag)
-    (slice (c .before .before .before .args .from) (c .before .before .before .args .to)
-    (now (c .before .before .before .args .s)))
+    sym (child-over (c .before .before .before .args .left)
+    (c .before .before .before .args .count) (c .before .before .before .args .rule)
+    (c .before .before .before .args .tag)
+    (slice (c .before .before .before .args .content .from)
+    (c .before .before .before .args .content .to) (now (c .before .before .before .args .area)))
     (let e = c .before .wide .ensures .0 in omega arith))
 
 check-child-child-at-requires : (t : ℕ) → check-child-lts.Need-child-at-requires (
@@ -227,26 +228,26 @@ check-child-returns-2 : (t : ℕ) → check-child-lts.Need-returns-2 (
 ) (check-child-at t) check-child.Post
 check-child-returns-2 t c =
     c .check-field .ensures ∙ sym
-    (child-passes (c .before .before .before .before .before .before .before .args .left)
-    (c .before .before .before .before .before .before .before .args .n)
-    (c .before .before .before .before .before .before .before .args .rule)
-    (c .before .before .before .before .before .before .before .args .tag)
-    (slice (c .before .before .before .before .before .before .before .args .from)
-    (c .before .before .before .before .before .before .before .args .to)
-    (now (c .before .before .before .before .before .before .before .args .s)))
-    (let e = c .before .before .before .before .before .wide .ensures .0 in omega arith)
-    (c .before .before .before .before .before .before .before .args .to -
-    c .before .before .before .before .before .before .before .args .from)
-    (sym (length-slice (c .before .before .before .before .before .before .before .args .from)
-    (c .before .before .before .before .before .before .before .args .to)
-    (now (c .before .before .before .before .before .before .before .args .s))
-    (c .before .before .before .before .before .before .before .pre .1 .1)))
+    (child-passes (c .before .before .before .before .before .before .before .before .args .left)
+    (c .before .before .before .before .before .before .before .before .args .count)
+    (c .before .before .before .before .before .before .before .before .args .rule)
+    (c .before .before .before .before .before .before .before .before .args .tag)
+    (slice (c .before .before .before .before .before .before .before .before .args .content .from)
+    (c .before .before .before .before .before .before .before .before .args .content .to)
+    (now (c .before .before .before .before .before .before .before .before .args .area)))
+    (let e = c .before .before .before .before .before .before .wide .ensures .0 in omega arith)
+    (c .before .before .before .before .before .before .before .before .args .content .to -
+    c .before .before .before .before .before .before .before .before .args .content .from)
+    (sym (length-slice (c .before .before .before .before .before .before .before .before .args .content .from)
+    (c .before .before .before .before .before .before .before .before .args .content .to)
+    (now (c .before .before .before .before .before .before .before .before .args .area))
+    (c .before .before .before .before .before .before .before .before .pre .1 .1)))
     ((sym (ap (λ (ch : Child). allowed ch
-    (c .before .before .before .before .before .before .before .args .tag)
-    (c .before .before .before .before .before .before .before .args .to -
-    c .before .before .before .before .before .before .before .args .from))
-    (c .before .before .before .child-at .ensures)) ∙ sym (c .before .before .allows .ensures)) ∙
-    c .before .if2 .taken))
+    (c .before .before .before .before .before .before .before .before .args .tag)
+    (c .before .before .before .before .before .before .before .before .args .content .to -
+    c .before .before .before .before .before .before .before .before .args .content .from))
+    (c .before .before .before .before .child-at .ensures)) ∙ sym
+    (c .before .before .allows .ensures)) ∙ c .before .if2 .taken))
 
 check-child-returns-3 : (t : ℕ) → check-child-lts.Need-returns-3 (
   wide-reads.Asked,
@@ -259,34 +260,35 @@ check-child-returns-3 : (t : ℕ) → check-child-lts.Need-returns-3 (
   check-field.Post,
 ) (check-child-at t) check-child.Post
 check-child-returns-3 t c =
-    sym (child-fails (c .before .before .before .before .before .before .args .left)
-    (c .before .before .before .before .before .before .args .n)
-    (c .before .before .before .before .before .before .args .rule)
-    (c .before .before .before .before .before .before .args .tag)
-    (slice (c .before .before .before .before .before .before .args .from)
-    (c .before .before .before .before .before .before .args .to)
-    (now (c .before .before .before .before .before .before .args .s)))
-    (let e = c .before .before .before .before .wide .ensures .0 in omega arith)
-    (c .before .before .before .before .before .before .args .to -
-    c .before .before .before .before .before .before .args .from)
-    (sym (length-slice (c .before .before .before .before .before .before .args .from)
-    (c .before .before .before .before .before .before .args .to)
-    (now (c .before .before .before .before .before .before .args .s))
-    (c .before .before .before .before .before .before .pre .1 .1)))
+    sym (child-fails (c .before .before .before .before .before .before .before .args .left)
+    (c .before .before .before .before .before .before .before .args .count)
+    (c .before .before .before .before .before .before .before .args .rule)
+    (c .before .before .before .before .before .before .before .args .tag)
+    (slice (c .before .before .before .before .before .before .before .args .content .from)
+    (c .before .before .before .before .before .before .before .args .content .to)
+    (now (c .before .before .before .before .before .before .before .args .area)))
+    (let e = c .before .before .before .before .before .wide .ensures .0 in omega arith)
+    (c .before .before .before .before .before .before .before .args .content .to -
+    c .before .before .before .before .before .before .before .args .content .from)
+    (sym (length-slice (c .before .before .before .before .before .before .before .args .content .from)
+    (c .before .before .before .before .before .before .before .args .content .to)
+    (now (c .before .before .before .before .before .before .before .args .area))
+    (c .before .before .before .before .before .before .before .pre .1 .1)))
     ((sym (ap (λ (ch : Child). allowed ch
-    (c .before .before .before .before .before .before .args .tag)
-    (c .before .before .before .before .before .before .args .to -
-    c .before .before .before .before .before .before .args .from))
-    (c .before .before .child-at .ensures)) ∙ sym (c .before .allows .ensures)) ∙ c .if2 .left))
+    (c .before .before .before .before .before .before .before .args .tag)
+    (c .before .before .before .before .before .before .before .args .content .to -
+    c .before .before .before .before .before .before .before .args .content .from))
+    (c .before .before .before .child-at .ensures)) ∙ sym (c .before .allows .ensures)) ∙
+    c .if2 .left))
 
 abbrev check-children-Inv-loop : check-children-lts.InvT-loop
-check-children-Inv-loop s rule from to left at₀ n₀ at n =
-    (from ≤ at) × (at ≤ to) × (n ≤ at) ×
-    (contentOk (fieldOk left) rule n (slice at to s) ≡ contentOk (fieldOk left) rule 0
-    (slice from to s))
+check-children-Inv-loop area rule left end at₀ count₀ at count =
+    (at₀ ≤ at) × (at ≤ end) × (count ≤ at) ×
+    (contentOk (fieldOk left) rule count (slice at end area) ≡ contentOk (fieldOk left) rule 0
+    (slice at₀ end area))
 
 abbrev check-children-μ-loop : check-children-lts.MeasureT-loop
-check-children-μ-loop s rule from to left at₀ n₀ at n = to - at
+check-children-μ-loop area rule left end at₀ count₀ at count = end - at
 
 check-children-loop-holds : (t : ℕ) → check-children-lts.Need-loop-holds (
   head-at-reads.Asked,
@@ -327,13 +329,14 @@ check-children-check-child-requires : (t : ℕ) → check-children-lts.Need-chec
   wide-reads.Learnt,
 ) (check-children-at t) check-children.Post check-children-Inv-loop check-children-μ-loop
 check-children-check-child-requires t c κs =
-    let f = (head-found (now (c .before .before .before .before .before .before .before .args .s))
+    let f = (head-found (now
+    (c .before .before .before .before .before .before .before .args .area))
     (c .before .before .before .before .before .loop .at)
-    (c .before .before .before .before .before .before .before .args .to)
+    (c .before .before .before .before .before .before .before .args .content .to)
     (c .before .before .before .before .before .before .before .pre .1 .1) _ _ _
     (sym (c .before .before .before .head-at .ensures) ∙ c .before .h .given .1)) in search needs
 
-check-children-add-n : (t : ℕ) → check-children-lts.Need-add-n (
+check-children-add-count : (t : ℕ) → check-children-lts.Need-add-count (
   head-at-reads.Asked,
   head-at-reads.Learnt,
   check-child-below t,
@@ -341,11 +344,11 @@ check-children-add-n : (t : ℕ) → check-children-lts.Need-add-n (
   wide-reads.Asked,
   wide-reads.Learnt,
 ) (check-children-at t) check-children.Post check-children-Inv-loop check-children-μ-loop
-check-children-add-n t c =
+check-children-add-count t c =
     let f = (head-found (now
-    (c .before .before .before .before .before .before .before .before .before .args .s))
+    (c .before .before .before .before .before .before .before .before .before .args .area))
     (c .before .before .before .before .before .before .before .loop .at)
-    (c .before .before .before .before .before .before .before .before .before .args .to)
+    (c .before .before .before .before .before .before .before .before .before .args .content .to)
     (c .before .before .before .before .before .before .before .before .before .pre .1 .1) _ _ _
     (sym (c .before .before .before .before .before .head-at .ensures) ∙
     c .before .before .before .h .given .1)) in omega arith
@@ -360,9 +363,9 @@ check-children-loop-less : (t : ℕ) → check-children-lts.Need-loop-less (
 ) (check-children-at t) check-children.Post check-children-Inv-loop check-children-μ-loop
 check-children-loop-less t c =
     let f = (head-found (now
-    (c .before .before .before .before .before .before .before .before .before .args .s))
+    (c .before .before .before .before .before .before .before .before .before .args .area))
     (c .before .before .before .before .before .before .before .loop .at)
-    (c .before .before .before .before .before .before .before .before .before .args .to)
+    (c .before .before .before .before .before .before .before .before .before .args .content .to)
     (c .before .before .before .before .before .before .before .before .before .pre .1 .1) _ _ _
     (sym (c .before .before .before .before .before .head-at .ensures) ∙
     c .before .before .before .h .given .1)) in search needs
@@ -377,9 +380,9 @@ check-children-loop-again : (t : ℕ) → check-children-lts.Need-loop-again (
 ) (check-children-at t) check-children.Post check-children-Inv-loop check-children-μ-loop
 check-children-loop-again t c =
     let f = (head-found (now
-    (c .before .before .before .before .before .before .before .before .before .args .s))
+    (c .before .before .before .before .before .before .before .before .before .args .area))
     (c .before .before .before .before .before .before .before .loop .at)
-    (c .before .before .before .before .before .before .before .before .before .args .to)
+    (c .before .before .before .before .before .before .before .before .before .args .content .to)
     (c .before .before .before .before .before .before .before .before .before .pre .1 .1) _ _ _
     (sym (c .before .before .before .before .before .head-at .ensures) ∙
     c .before .before .before .h .given .1)) in (
@@ -387,13 +390,13 @@ check-children-loop-again t c =
       f .stop,
       omega arith,
       sym
-          (children-next (now (c .before .before .before .before .before .before .before .before .before .args .s))
+          (children-next (now (c .before .before .before .before .before .before .before .before .before .args .area))
           (c .before .before .before .before .before .before .before .loop .at)
-          (c .before .before .before .before .before .before .before .before .before .args .to)
+          (c .before .before .before .before .before .before .before .before .before .args .content .to)
           (c .before .before .before .before .before .before .before .before .before .pre .1 .1)
           (fieldOk (c .before .before .before .before .before .before .before .before .before .args .left))
           (c .before .before .before .before .before .before .before .before .before .args .rule)
-          (c .before .before .before .before .before .before .before .loop .n) _ _ _
+          (c .before .before .before .before .before .before .before .loop .count) _ _ _
           (sym (c .before .before .before .before .before .head-at .ensures) ∙
           c .before .before .before .h .given .1)
           (sym (c .before .check-child .ensures) ∙ c .if1 .taken)) ∙
@@ -409,13 +412,13 @@ check-children-returns : (t : ℕ) → check-children-lts.Need-returns (
   wide-reads.Learnt,
 ) (check-children-at t) check-children.Post check-children-Inv-loop check-children-μ-loop
 check-children-returns t c =
-    sym (children-bad (now (c .before .before .before .before .before .before .before .before .before .args .s))
+    sym (children-bad (now (c .before .before .before .before .before .before .before .before .before .args .area))
     (c .before .before .before .before .before .before .before .loop .at)
-    (c .before .before .before .before .before .before .before .before .before .args .to)
+    (c .before .before .before .before .before .before .before .before .before .args .content .to)
     (c .before .before .before .before .before .before .before .before .before .pre .1 .1)
     (fieldOk (c .before .before .before .before .before .before .before .before .before .args .left))
     (c .before .before .before .before .before .before .before .before .before .args .rule)
-    (c .before .before .before .before .before .before .before .loop .n) _ _ _
+    (c .before .before .before .before .before .before .before .loop .count) _ _ _
     (sym (c .before .before .before .before .before .head-at .ensures) ∙
     c .before .before .before .h .given .1) (sym (c .before .check-child .ensures) ∙ c .if1 .left))
     ∙ c .before .before .before .before .before .before .before .loop .inv .3
@@ -439,13 +442,13 @@ check-children-returns-2 : (t : ℕ) → check-children-lts.Need-returns-2 (
   wide-reads.Learnt,
 ) (check-children-at t) check-children.Post check-children-Inv-loop check-children-μ-loop
 check-children-returns-2 t c =
-    sym (children-nothing (now (c .before .before .before .before .before .before .args .s))
+    sym (children-nothing (now (c .before .before .before .before .before .before .args .area))
     (c .before .before .before .before .loop .at)
-    (c .before .before .before .before .before .before .args .to)
+    (c .before .before .before .before .before .before .args .content .to)
     (c .before .before .before .before .before .before .pre .1 .1)
     (fieldOk (c .before .before .before .before .before .before .args .left))
     (c .before .before .before .before .before .before .args .rule)
-    (c .before .before .before .before .loop .n) (c .before .before .before .loop-test .taken)
+    (c .before .before .before .before .loop .count) (c .before .before .before .loop-test .taken)
     (sym (c .before .before .head-at .ensures) ∙ c .enum-told .given .1)) ∙
     c .before .before .before .before .loop .inv .3
 
@@ -468,12 +471,12 @@ check-children-returns-3 : (t : ℕ) → check-children-lts.Need-returns-3 (
   wide-reads.Learnt,
 ) (check-children-at t) check-children.Post check-children-Inv-loop check-children-μ-loop
 check-children-returns-3 t c =
-    ap (λ (m : ℕ). leb m (c .before .before .loop .n)) (c .wide .ensures .0) ∙
-    (sym (children-end (now (c .before .before .before .before .args .s))
-    (c .before .before .loop .at) (c .before .before .before .before .args .to)
+    ap (λ (m : ℕ). leb m (c .before .before .loop .count)) (c .wide .ensures .0) ∙
+    (sym (children-end (now (c .before .before .before .before .args .area))
+    (c .before .before .loop .at) (c .before .before .before .before .args .content .to)
     (c .before .before .before .before .pre .1 .1)
     (fieldOk (c .before .before .before .before .args .left))
-    (c .before .before .before .before .args .rule) (c .before .before .loop .n)
+    (c .before .before .before .before .args .rule) (c .before .before .loop .count)
     (c .before .before .loop .inv .1) (c .before .loop-test .left)) ∙
     c .before .before .loop .inv .3)
 
@@ -519,14 +522,14 @@ check-criterion-returns-2 : (t : ℕ) → check-criterion-lts.Need-returns-2 (
 check-criterion-returns-2 t c =
     c .check-children .ensures ∙
     (ap (λ (r : Rule). contentOk (fieldOk (c .before .before .before .before .args .left - 1)) r 0
-    (slice (c .before .before .before .before .args .from)
-    (c .before .before .before .before .args .to)
-    (now (c .before .before .before .before .args .s)))) (c .before .rule-of .ensures) ∙ sym
+    (slice (c .before .before .before .before .args .content .from)
+    (c .before .before .before .before .args .content .to)
+    (now (c .before .before .before .before .args .area)))) (c .before .rule-of .ensures) ∙ sym
     (criterion-rule (c .before .before .before .before .args .left)
     (c .before .before .before .before .args .tag)
-    (slice (c .before .before .before .before .args .from)
-    (c .before .before .before .before .args .to)
-    (now (c .before .before .before .before .args .s)))
+    (slice (c .before .before .before .before .args .content .from)
+    (c .before .before .before .before .args .content .to)
+    (now (c .before .before .before .before .args .area)))
     (c .before .before .before .before .pre .1 .2) (c .before .before .before .before .pre .1 .3)
     (c .before .before .if1 .left)))
 
@@ -571,14 +574,14 @@ check-data-returns-2 : (t : ℕ) → check-data-lts.Need-returns-2 (
 check-data-returns-2 t c =
     c .check-children .ensures ∙
     (ap (λ (r : Rule). contentOk (fieldOk (c .before .before .before .before .args .left - 1)) r 0
-    (slice (c .before .before .before .before .args .from)
-    (c .before .before .before .before .args .to)
-    (now (c .before .before .before .before .args .s)))) (c .before .rule-of .ensures) ∙ sym
+    (slice (c .before .before .before .before .args .content .from)
+    (c .before .before .before .before .args .content .to)
+    (now (c .before .before .before .before .args .area)))) (c .before .rule-of .ensures) ∙ sym
     (data-rule (c .before .before .before .before .args .left)
     (c .before .before .before .before .args .tag)
-    (slice (c .before .before .before .before .args .from)
-    (c .before .before .before .before .args .to)
-    (now (c .before .before .before .before .args .s)))
+    (slice (c .before .before .before .before .args .content .from)
+    (c .before .before .before .before .args .content .to)
+    (now (c .before .before .before .before .args .area)))
     (c .before .before .before .before .pre .1 .2) (c .before .before .before .before .pre .1 .3)
     (c .before .before .if1 .left)))
 
@@ -730,8 +733,9 @@ check-field-returns : (t : ℕ) → check-field-lts.Need-returns (
 check-field-returns t c =
     c .check-array-field .ensures ∙ sym
     (field-array (c .before .before .before .args .left) (c .before .before .before .args .tag)
-    (slice (c .before .before .before .args .from) (c .before .before .before .args .to)
-    (now (c .before .before .before .args .s))) (c .before .match .keys1))
+    (slice (c .before .before .before .args .content .from)
+    (c .before .before .before .args .content .to) (now (c .before .before .before .args .area)))
+    (c .before .match .keys1))
 
 check-field-returns-2 : (t : ℕ) → check-field-lts.Need-returns-2 (
   check-array-field-reads.Asked,
@@ -752,8 +756,9 @@ check-field-returns-2 : (t : ℕ) → check-field-lts.Need-returns-2 (
 check-field-returns-2 t c =
     c .check-path .ensures ∙ sym
     (field-path (c .before .before .before .args .left) (c .before .before .before .args .tag)
-    (slice (c .before .before .before .args .from) (c .before .before .before .args .to)
-    (now (c .before .before .before .args .s))) (c .before .match .keys2))
+    (slice (c .before .before .before .args .content .from)
+    (c .before .before .before .args .content .to) (now (c .before .before .before .args .area)))
+    (c .before .match .keys2))
 
 check-field-returns-3 : (t : ℕ) → check-field-lts.Need-returns-3 (
   check-array-field-reads.Asked,
@@ -774,8 +779,9 @@ check-field-returns-3 : (t : ℕ) → check-field-lts.Need-returns-3 (
 check-field-returns-3 t c =
     c .check-divisor .ensures ∙ sym
     (field-divisor (c .before .before .before .args .left) (c .before .before .before .args .tag)
-    (slice (c .before .before .before .args .from) (c .before .before .before .args .to)
-    (now (c .before .before .before .args .s))) (c .before .match .keys3))
+    (slice (c .before .before .before .args .content .from)
+    (c .before .before .before .args .content .to) (now (c .before .before .before .args .area)))
+    (c .before .match .keys3))
 
 check-field-returns-4 : (t : ℕ) → check-field-lts.Need-returns-4 (
   check-array-field-reads.Asked,
@@ -797,9 +803,9 @@ check-field-returns-4 t c =
     c .check-criterion .ensures ∙ sym
     (criterion-field (c .before .before .before .before .before .args .left)
     (c .before .before .before .before .before .args .tag)
-    (slice (c .before .before .before .before .before .args .from)
-    (c .before .before .before .before .before .args .to)
-    (now (c .before .before .before .before .before .args .s)))
+    (slice (c .before .before .before .before .before .args .content .from)
+    (c .before .before .before .before .before .args .content .to)
+    (now (c .before .before .before .before .before .args .area)))
     (let n : c .before .before .before .before .before .args .tag ≡ 32 → ⊥ =
     c .before .before .before .match .rest .0 .1 in omega (arith, n)) (omega arith))
 
@@ -823,9 +829,9 @@ check-field-returns-5 t c =
     c .check-data .ensures ∙ sym
     (data-field (c .before .before .before .before .before .before .args .left)
     (c .before .before .before .before .before .before .args .tag)
-    (slice (c .before .before .before .before .before .before .args .from)
-    (c .before .before .before .before .before .before .args .to)
-    (now (c .before .before .before .before .before .before .args .s)))
+    (slice (c .before .before .before .before .before .before .args .content .from)
+    (c .before .before .before .before .before .before .args .content .to)
+    (now (c .before .before .before .before .before .before .args .area)))
     (c .before .before .if2 .left) (omega arith))
 
 check-field-returns-6 : (t : ℕ) → check-field-lts.Need-returns-6 (
@@ -847,14 +853,14 @@ check-field-returns-6 : (t : ℕ) → check-field-lts.Need-returns-6 (
 check-field-returns-6 t c =
     c .check-children .ensures
     ∙ (ap (λ (r : Rule). contentOk (fieldOk nestMax) r 0
-    (slice (c .before .before .before .before .before .args .from)
-    (c .before .before .before .before .before .args .to)
-    (now (c .before .before .before .before .before .args .s)))) (c .before .rule-of .ensures)
+    (slice (c .before .before .before .before .before .args .content .from)
+    (c .before .before .before .before .before .args .content .to)
+    (now (c .before .before .before .before .before .args .area)))) (c .before .rule-of .ensures)
     ∙ sym (other-rule (c .before .before .before .before .before .args .left)
     (c .before .before .before .before .before .args .tag)
-    (slice (c .before .before .before .before .before .args .from)
-    (c .before .before .before .before .before .args .to)
-    (now (c .before .before .before .before .before .args .s)))
+    (slice (c .before .before .before .before .before .args .content .from)
+    (c .before .before .before .before .before .args .content .to)
+    (now (c .before .before .before .before .before .args .area)))
     (c .before .before .before .match .rest .0 .0 .1)
     (c .before .before .before .match .rest .0 .1) (c .before .before .before .match .rest .1)
     (⊎-elim (λ w. inl (omega arith)) (λ w. inr (omega arith)) (c .before .before .if1 .came))))
@@ -904,7 +910,7 @@ pub +check-child+check-children+check-criterion+check-data+check-field-spec :
     (check-children-head-at-requires t)
     (check-children-enum-known-h t)
     (check-children-check-child-requires t)
-    (check-children-add-n t)
+    (check-children-add-count t)
     (check-children-loop-less t)
     (check-children-loop-again t)
     (check-children-returns t)

@@ -9,11 +9,11 @@ use Rattle.queries.proofs.check.is_label.Lts as lts
 
 returns : tie.Need-returns
 unfolding isLabel
-returns c = rw (lt-leb 1 (c .before .args .k) (c .if1 .taken)) refl
+returns c = rw (lt-leb 1 (c .before .args .label) (c .if1 .taken)) refl
 
 returns-2 : tie.Need-returns-2
 unfolding isLabel
-returns-2 c = rw (le-leb 1 (c .before .args .k) (c .if1 .left)) refl
+returns-2 c = rw (le-leb 1 (c .before .args .label) (c .if1 .left)) refl
 
 pub is-label-spec : {M : Type 1} → statement M
 is-label-spec = tie.close (tie.spec returns returns-2)

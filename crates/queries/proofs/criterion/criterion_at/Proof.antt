@@ -16,26 +16,24 @@ shared-slice-read-tag c = omega (arith, holds-room criterionF (c .before .before
 
 returns : tie.Need-returns
 returns c =
-    criterion-reads (c .before .before .before .args .q .now) (c .before .before .before .args .p)
-    (c .before .before .before .args .e) refl (c .if1 .taken)
-
-add-t8 : tie.Need-add-t8
-add-t8 c = search needs
-
-returns-2 : tie.Need-returns-2
-returns-2 c =
-    criterion-reads (c .before .before .before .before .args .q .now)
-    (c .before .before .before .before .args .p) (c .before .before .before .before .args .e) refl
-    (c .if2 .taken)
+    criterion-reads (c .before .before .before .args .query .now)
+    (c .before .before .before .args .criterion .from)
+    (c .before .before .before .args .criterion .to) refl (c .if1 .taken)
 
 add-t9 : tie.Need-add-t9
 add-t9 c = search needs
 
+returns-2 : tie.Need-returns-2
+returns-2 c =
+    criterion-reads (c .before .before .before .before .args .query .now)
+    (c .before .before .before .before .args .criterion .from)
+    (c .before .before .before .before .args .criterion .to) refl (c .if2 .taken)
+
 returns-3 : tie.Need-returns-3
 returns-3 c =
-    criterion-reads (c .before .before .before .before .before .args .q .now)
-    (c .before .before .before .before .before .args .p)
-    (c .before .before .before .before .before .args .e) refl (c .if3 .taken)
+    criterion-reads (c .before .before .before .before .before .args .query .now)
+    (c .before .before .before .before .before .args .criterion .from)
+    (c .before .before .before .before .before .args .criterion .to) refl (c .if3 .taken)
 
 two-at-requires : tie.Need-two-at-requires
 two-at-requires c κs = search needs
@@ -46,12 +44,4 @@ returns-4 c = search needs
 pub criterion-at-spec : {M : Type 1} → statement M
 criterion-at-spec =
     tie.close
-    (tie.spec
-    shared-slice-read-tag
-    returns
-    add-t8
-    returns-2
-    add-t9
-    returns-3
-    two-at-requires
-    returns-4)
+    (tie.spec shared-slice-read-tag returns add-t9 returns-2 returns-3 two-at-requires returns-4)

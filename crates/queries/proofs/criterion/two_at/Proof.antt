@@ -25,49 +25,44 @@ field-end-requires c κs =
           (c .before .before .pre .2) (c .before .before .pre .3),
     )
 
-add-f : tie.Need-add-f
-add-f c = search needs
+add-t11 : tie.Need-add-t11
+add-t11 c = search needs
 
-add-g : tie.Need-add-g
-add-g c =
+add-t13 : tie.Need-add-t13
+add-t13 c =
     omega (
       arith,
-      criterion-room (c .before .before .before .pre .0) (c .field-end .ensures)
-          (c .before .before .before .pre .1) (c .before .before .before .pre .2)
-          (c .before .before .before .pre .3),
+      criterion-room (c .before .before .before .before .pre .0)
+          (c .before .field-end .ensures) (c .before .before .before .before .pre .1)
+          (c .before .before .before .before .pre .2) (c .before .before .before .before .pre .3),
     )
 
 returns : tie.Need-returns
 returns c =
-    criterion-reads (c .before .before .before .before .args .q .now)
-    (c .before .before .before .before .args .p) (c .before .before .before .before .args .e)
-    (c .before .field-end .ensures) (c .if1 .taken)
+    criterion-reads (c .before .before .before .before .args .query .now)
+    (c .before .before .before .before .args .criterion .from)
+    (c .before .before .before .before .args .criterion .to) (c .before .field-end .ensures)
+    (c .if1 .taken)
 
 returns-2 : tie.Need-returns-2
 returns-2 c =
-    criterion-reads (c .before .before .before .before .before .args .q .now)
-    (c .before .before .before .before .before .args .p)
-    (c .before .before .before .before .before .args .e) (c .before .before .field-end .ensures)
-    (c .if2 .taken)
-
-add-t12 : tie.Need-add-t12
-add-t12 c = search needs
+    criterion-reads (c .before .before .before .before .before .args .query .now)
+    (c .before .before .before .before .before .args .criterion .from)
+    (c .before .before .before .before .before .args .criterion .to)
+    (c .before .before .field-end .ensures) (c .if2 .taken)
 
 returns-3 : tie.Need-returns-3
 returns-3 c =
-    criterion-reads (c .before .before .before .before .before .before .args .q .now)
-    (c .before .before .before .before .before .before .args .p)
-    (c .before .before .before .before .before .before .args .e)
+    criterion-reads (c .before .before .before .before .before .before .args .query .now)
+    (c .before .before .before .before .before .before .args .criterion .from)
+    (c .before .before .before .before .before .before .args .criterion .to)
     (c .before .before .before .field-end .ensures) (c .if3 .taken)
-
-add-t10 : tie.Need-add-t10
-add-t10 c = search needs
 
 returns-4 : tie.Need-returns-4
 returns-4 c =
-    criterion-reads-either (c .before .before .before .before .before .before .args .q .now)
-    (c .before .before .before .before .before .before .args .p)
-    (c .before .before .before .before .before .before .args .e)
+    criterion-reads-either (c .before .before .before .before .before .before .args .query .now)
+    (c .before .before .before .before .before .before .args .criterion .from)
+    (c .before .before .before .before .before .before .args .criterion .to)
     (c .before .before .before .field-end .ensures)
     (c .before .before .before .before .before .before .pre .1)
     (c .before .before .before .before .before .before .pre .2)
@@ -81,11 +76,9 @@ two-at-spec =
     shared-slice-read-tag
     add-field-end
     field-end-requires
-    add-f
-    add-g
+    add-t11
+    add-t13
     returns
     returns-2
-    add-t12
     returns-3
-    add-t10
     returns-4)

@@ -14,40 +14,36 @@ use Rattle.queries.proofs.data.several_at.Reads as several-at-reads
 shared-slice-read-tag : tie.Need-shared-slice-read-tag
 shared-slice-read-tag c = omega (arith, holds-room dataF (c .before .before .pre))
 
-add-t8 : tie.Need-add-t8
-add-t8 c = search needs
-
-returns : tie.Need-returns
-returns c =
-    data-reads (c .before .before .before .args .q .now) (c .before .before .before .args .p)
-    (c .before .before .before .args .e) refl refl refl (c .if1 .taken)
-
-add-t9 : tie.Need-add-t9
-add-t9 c = search needs
-
-returns-2 : tie.Need-returns-2
-returns-2 c =
-    data-reads (c .before .before .before .before .args .q .now)
-    (c .before .before .before .before .args .p) (c .before .before .before .before .args .e) refl
-    refl refl (c .if2 .taken)
-
 add-t10 : tie.Need-add-t10
 add-t10 c = search needs
 
+returns : tie.Need-returns
+returns c =
+    data-reads (c .before .before .before .args .query .now)
+    (c .before .before .before .args .datum .from) (c .before .before .before .args .datum .to)
+    refl refl refl (c .if1 .taken)
+
+add-t12 : tie.Need-add-t12
+add-t12 c = search needs
+
+returns-2 : tie.Need-returns-2
+returns-2 c =
+    data-reads (c .before .before .before .before .args .query .now)
+    (c .before .before .before .before .args .datum .from)
+    (c .before .before .before .before .args .datum .to) refl refl refl (c .if2 .taken)
+
 returns-3 : tie.Need-returns-3
 returns-3 c =
-    data-reads (c .before .before .before .before .before .args .q .now)
-    (c .before .before .before .before .before .args .p)
-    (c .before .before .before .before .before .args .e) refl refl refl (c .if3 .taken)
-
-add-t11 : tie.Need-add-t11
-add-t11 c = search needs
+    data-reads (c .before .before .before .before .before .args .query .now)
+    (c .before .before .before .before .before .args .datum .from)
+    (c .before .before .before .before .before .args .datum .to) refl refl refl (c .if3 .taken)
 
 returns-4 : tie.Need-returns-4
 returns-4 c =
-    data-reads (c .before .before .before .before .before .before .args .q .now)
-    (c .before .before .before .before .before .before .args .p)
-    (c .before .before .before .before .before .before .args .e) refl refl refl (c .if4 .taken)
+    data-reads (c .before .before .before .before .before .before .args .query .now)
+    (c .before .before .before .before .before .before .args .datum .from)
+    (c .before .before .before .before .before .before .args .datum .to) refl refl refl
+    (c .if4 .taken)
 
 several-at-requires : tie.Need-several-at-requires
 several-at-requires c κs = search needs
@@ -60,13 +56,11 @@ data-at-spec =
     tie.close
     (tie.spec
     shared-slice-read-tag
-    add-t8
-    returns
-    add-t9
-    returns-2
     add-t10
+    returns
+    add-t12
+    returns-2
     returns-3
-    add-t11
     returns-4
     several-at-requires
     returns-5)

@@ -26,6 +26,9 @@ field-end-requires c κs =
           (c .before .before .pre .2) (c .before .before .pre .3) (c .before .before .pre .4),
     )
 
+add-t12 : tie.Need-add-t12
+add-t12 c = search needs
+
 field-end-requires-2 : tie.Need-field-end-requires-2
 field-end-requires-2 c κs =
     omega (
@@ -40,15 +43,12 @@ field-end-requires-2 c κs =
           (c .before .before .before .before .pre .4)) .inside,
     )
 
-add-t12 : tie.Need-add-t12
-add-t12 c = search needs
-
 returns : tie.Need-returns
 returns c =
-    data-reads (c .before .before .before .before .before .args .q .now)
-    (c .before .before .before .before .before .args .p)
-    (c .before .before .before .before .before .args .e) (c .before .before .field-end .ensures)
-    (c .field-end2 .ensures) refl (c .before .if1 .taken)
+    data-reads (c .before .before .before .before .before .args .query .now)
+    (c .before .before .before .before .before .args .datum .from)
+    (c .before .before .before .before .before .args .datum .to)
+    (c .before .before .field-end .ensures) (c .field-end2 .ensures) refl (c .before .if1 .taken)
 
 divisor-at-requires : tie.Need-divisor-at-requires
 divisor-at-requires c κs =
@@ -64,15 +64,13 @@ divisor-at-requires c κs =
           (c .before .before .before .before .pre .4)) .inside,
     )
 
-add-t10 : tie.Need-add-t10
-add-t10 c = search needs
-
 returns-2 : tie.Need-returns-2
 returns-2 c =
-    data-reads-reduced (c .before .before .before .before .before .args .q .now)
-    (c .before .before .before .before .before .args .p)
-    (c .before .before .before .before .before .args .e) (c .before .before .field-end .ensures)
-    (c .divisor-at .ensures) (c .before .before .before .before .before .pre .1)
+    data-reads-reduced (c .before .before .before .before .before .args .query .now)
+    (c .before .before .before .before .before .args .datum .from)
+    (c .before .before .before .before .before .args .datum .to)
+    (c .before .before .field-end .ensures) (c .divisor-at .ensures)
+    (c .before .before .before .before .before .pre .1)
     (c .before .before .before .before .before .pre .2)
     (c .before .before .before .before .before .pre .3)
     (c .before .before .before .before .before .pre .4) (c .before .if1 .left)
@@ -84,9 +82,8 @@ several-at-spec =
     shared-slice-read-tag
     add-field-end
     field-end-requires
-    field-end-requires-2
     add-t12
+    field-end-requires-2
     returns
     divisor-at-requires
-    add-t10
     returns-2)

@@ -14,13 +14,14 @@ use Rattle.areas.proofs.area.field_end.Reads as field-end-reads
 shared-slice-read-tag : tie.Need-shared-slice-read-tag
 shared-slice-read-tag c = omega (arith, holds-room itemF (c .before .before .pre))
 
-add-t9 : tie.Need-add-t9
-add-t9 c = search needs
+add-t10 : tie.Need-add-t10
+add-t10 c = search needs
 
 returns : tie.Need-returns
 returns c =
-    item-reads (c .before .before .before .args .q .now) (c .before .before .before .args .p)
-    (c .before .before .before .args .e) refl (c .if1 .taken)
+    item-reads (c .before .before .before .args .query .now)
+    (c .before .before .before .args .item .from) (c .before .before .before .args .item .to) refl
+    (c .if1 .taken)
 
 add-field-end : tie.Need-add-field-end
 add-field-end c = search needs
@@ -29,32 +30,24 @@ field-end-requires : tie.Need-field-end-requires
 field-end-requires c κs =
     omega (arith, item-room (c .before .before .before .pre) refl (c .if1 .left))
 
-add-t10 : tie.Need-add-t10
-add-t10 c = search needs
-
-add-t11 : tie.Need-add-t11
-add-t11 c =
-    omega (
-      arith,
-      item-room (c .before .before .before .before .pre) (c .field-end .ensures)
-          (c .before .if1 .left),
-    )
+add-t12 : tie.Need-add-t12
+add-t12 c = search needs
 
 returns-2 : tie.Need-returns-2
 returns-2 c =
-    item-reads-place (c .before .before .before .before .args .q .now)
-    (c .before .before .before .before .args .p) (c .before .before .before .before .args .e)
-    (c .field-end .ensures) (c .before .if1 .left)
+    item-reads-place (c .before .before .before .before .args .query .now)
+    (c .before .before .before .before .args .item .from)
+    (c .before .before .before .before .args .item .to) (c .field-end .ensures)
+    (c .before .if1 .left)
 
 pub item-at-spec : {M : Type 1} → statement M
 item-at-spec =
     tie.close
     (tie.spec
     shared-slice-read-tag
-    add-t9
+    add-t10
     returns
     add-field-end
     field-end-requires
-    add-t10
-    add-t11
+    add-t12
     returns-2)

@@ -15,14 +15,11 @@ add-field-end c = search needs
 field-end-requires : tie.Need-field-end-requires
 field-end-requires c κs = omega (arith, pair-room (c .before .pre) refl)
 
-add-f : tie.Need-add-f
-add-f c = search needs
-
-add-g : tie.Need-add-g
-add-g c = omega (arith, pair-room (c .before .before .pre) (c .field-end .ensures))
+add-t5 : tie.Need-add-t5
+add-t5 c = search needs
 
 returns : tie.Need-returns
 returns c = pair-reads (c .field-end .ensures)
 
 pub pair-at-spec : {M : Type 1} → statement M
-pair-at-spec = tie.close (tie.spec add-field-end field-end-requires add-f add-g returns)
+pair-at-spec = tie.close (tie.spec add-field-end field-end-requires add-t5 returns)

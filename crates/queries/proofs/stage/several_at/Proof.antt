@@ -25,23 +25,24 @@ field-end-requires c κs =
           (c .before .before .pre .2) (c .before .before .pre .3),
     )
 
-add-f : tie.Need-add-f
-add-f c = search needs
+add-t12 : tie.Need-add-t12
+add-t12 c = search needs
 
-add-g : tie.Need-add-g
-add-g c =
+add-t14 : tie.Need-add-t14
+add-t14 c =
     omega (
       arith,
-      (stage-room (c .before .before .before .pre .0) (c .field-end .ensures)
-          (c .before .before .before .pre .1) (c .before .before .before .pre .2)
-          (c .before .before .before .pre .3)),
+      (stage-room (c .before .before .before .before .pre .0)
+          (c .before .field-end .ensures) (c .before .before .before .before .pre .1)
+          (c .before .before .before .before .pre .2) (c .before .before .before .before .pre .3)),
     )
 
 returns : tie.Need-returns
 returns c =
-    stage-reads (c .before .before .before .before .args .q .now)
-    (c .before .before .before .before .args .p) (c .before .before .before .before .args .e)
-    (c .before .field-end .ensures) refl (c .if1 .taken)
+    stage-reads (c .before .before .before .before .args .query .now)
+    (c .before .before .before .before .args .stage .from)
+    (c .before .before .before .before .args .stage .to) (c .before .field-end .ensures) refl
+    (c .if1 .taken)
 
 field-end-requires-2 : tie.Need-field-end-requires-2
 field-end-requires-2 c κs =
@@ -56,27 +57,16 @@ field-end-requires-2 c κs =
           (c .before .before .before .before .pre .3)) .inside,
     )
 
-add-t11 : tie.Need-add-t11
-add-t11 c =
-    omega (
-      arith,
-      (stage-room (c .before .before .before .before .before .pre .0)
-          (c .before .before .field-end .ensures) (c .before .before .before .before .before .pre .1)
-          (c .before .before .before .before .before .pre .2)
-          (c .before .before .before .before .before .pre .3)) .lookup-within (c .before .if1 .left),
-      (stage-room (c .before .before .before .before .before .pre .0)
-          (c .before .before .field-end .ensures) (c .before .before .before .before .before .pre .1)
-          (c .before .before .before .before .before .pre .2)
-          (c .before .before .before .before .before .pre .3)) .inside,
-      c .field-end2 .ensures,
-    )
+add-t10 : tie.Need-add-t10
+add-t10 c = search needs
 
 returns-2 : tie.Need-returns-2
 returns-2 c =
-    stage-reads-lookup (c .before .before .before .before .before .args .q .now)
-    (c .before .before .before .before .before .args .p)
-    (c .before .before .before .before .before .args .e) (c .before .before .field-end .ensures)
-    (c .field-end2 .ensures) (c .before .before .before .before .before .pre .1)
+    stage-reads-lookup (c .before .before .before .before .before .args .query .now)
+    (c .before .before .before .before .before .args .stage .from)
+    (c .before .before .before .before .before .args .stage .to)
+    (c .before .before .field-end .ensures) (c .field-end2 .ensures)
+    (c .before .before .before .before .before .pre .1)
     (c .before .before .before .before .before .pre .2)
     (c .before .before .before .before .before .pre .3) (c .before .if1 .left)
 
@@ -87,9 +77,9 @@ several-at-spec =
     shared-slice-read-tag
     add-field-end
     field-end-requires
-    add-f
-    add-g
+    add-t12
+    add-t14
     returns
     field-end-requires-2
-    add-t11
+    add-t10
     returns-2)

@@ -19,26 +19,21 @@ add-t8 c = search needs
 
 returns : tie.Need-returns
 returns c =
-    stage-reads (c .before .before .before .args .q .now) (c .before .before .before .args .p)
-    (c .before .before .before .args .e) refl refl (c .if1 .taken)
-
-add-t9 : tie.Need-add-t9
-add-t9 c = search needs
+    stage-reads (c .before .before .before .args .query .now)
+    (c .before .before .before .args .stage .from) (c .before .before .before .args .stage .to)
+    refl refl (c .if1 .taken)
 
 returns-2 : tie.Need-returns-2
 returns-2 c =
-    stage-reads (c .before .before .before .before .args .q .now)
-    (c .before .before .before .before .args .p) (c .before .before .before .before .args .e) refl
-    refl (c .if2 .taken)
-
-add-t10 : tie.Need-add-t10
-add-t10 c = search needs
+    stage-reads (c .before .before .before .before .args .query .now)
+    (c .before .before .before .before .args .stage .from)
+    (c .before .before .before .before .args .stage .to) refl refl (c .if2 .taken)
 
 returns-3 : tie.Need-returns-3
 returns-3 c =
-    stage-reads (c .before .before .before .before .before .args .q .now)
-    (c .before .before .before .before .before .args .p)
-    (c .before .before .before .before .before .args .e) refl refl (c .if3 .taken)
+    stage-reads (c .before .before .before .before .before .args .query .now)
+    (c .before .before .before .before .before .args .stage .from)
+    (c .before .before .before .before .before .args .stage .to) refl refl (c .if3 .taken)
 
 several-at-requires : tie.Need-several-at-requires
 several-at-requires c κs = search needs
@@ -53,9 +48,7 @@ stage-at-spec =
     shared-slice-read-tag
     add-t8
     returns
-    add-t9
     returns-2
-    add-t10
     returns-3
     several-at-requires
     returns-4)

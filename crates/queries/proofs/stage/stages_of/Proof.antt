@@ -6,7 +6,7 @@ use Rattle.queries.proofs.stage.stages_of.Reads as reads
 use Rattle.queries.proofs.stage.stages_of.Lts as lts
 
 returns : tie.Need-returns
-returns c = query-reads (c .args .q .now)
+returns c = query-reads (c .args .query .now)
 
 pub stages-of-spec : {M : Type 1} → statement M
 stages-of-spec = tie.close (tie.spec returns)

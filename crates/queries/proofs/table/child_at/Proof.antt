@@ -14,7 +14,7 @@ child-of-requires c κs = search needs
 returns : tie.Need-returns
 returns c =
     c .child-of .ensures ∙ sym
-    (child-first (c .before .before .args .rule) (c .before .before .args .n)
+    (child-first (c .before .before .args .rule) (c .before .before .args .count)
     (c .before .if1 .taken))
 
 child-of-requires-2 : tie.Need-child-of-requires-2
@@ -23,7 +23,7 @@ child-of-requires-2 c κs = search needs
 returns-2 : tie.Need-returns-2
 returns-2 c =
     c .child-of2 .ensures ∙ sym
-    (child-second (c .before .before .before .args .rule) (c .before .before .before .args .n)
+    (child-second (c .before .before .before .args .rule) (c .before .before .before .args .count)
     (c .before .if2 .taken))
 
 child-of-requires-3 : tie.Need-child-of-requires-3
@@ -32,7 +32,7 @@ child-of-requires-3 c κs = search needs
 returns-3 : tie.Need-returns-3
 returns-3 c =
     c .child-of3 .ensures ∙ sym
-    (child-later (c .before .before .before .args .rule) (c .before .before .before .args .n)
+    (child-later (c .before .before .before .args .rule) (c .before .before .before .args .count)
     (c .before .before .if1 .left) (c .before .if2 .left))
 
 pub child-at-spec : {M : Type 1} → statement M

@@ -15,7 +15,7 @@ array-copy-out-r : tie.Need-array-copy-out-r
 array-copy-out-r c = search needs
 
 returns : tie.Need-returns
-returns c = kind-in (c .before .before .args .kind) (child 0 0 0) (c .before .if1 .taken)
+returns c = kind-in (c .before .before .args .kind) (child 0 0 0 0 0) (c .before .if1 .taken)
 
 returns-2 : tie.Need-returns-2
 returns-2 c = sym (kind-out (c .before .args .kind) (c .if1 .left))

@@ -11,14 +11,11 @@ use Rattle.areas.proofs.area.copy.Reads as copy-reads
 sub-base : tie.Need-sub-base
 sub-base c = search needs
 
-add-copy : tie.Need-add-copy
-add-copy c = omega (arith, (law.room-of (c .before .before .pre)))
+add-t8 : tie.Need-add-t8
+add-t8 c = omega (arith, (law.room-of (c .before .pre)))
 
-sub-copy : tie.Need-sub-copy
-sub-copy c = search needs
-
-add-copy-2 : tie.Need-add-copy-2
-add-copy-2 c = search needs
+add-t9 : tie.Need-add-t9
+add-t9 c = search needs
 
 copy-requires : tie.Need-copy-requires
 copy-requires c κs = (
@@ -44,8 +41,8 @@ returns c =
     (c .before .before .before .before .copy .kept .0)
     (c .before .before .before .before .copy .ensures) (c .enum-told .given .1)
 
-sub-t7 : tie.Need-sub-t7
-sub-t7 c =
+sub-t8 : tie.Need-sub-t8
+sub-t8 c =
     law.appended-end (c .before .before .before .before .before .before .before .before .pre)
     (c .before .before .before .before .before .copy .kept .0)
     (c .before .before .before .before .before .copy .ensures) (c .before .out .given .1)
@@ -64,14 +61,13 @@ append-spec =
     tie.close
     (tie.spec
     sub-base
-    add-copy
-    sub-copy
-    add-copy-2
+    add-t8
+    add-t9
     copy-requires
     enum-known-out
     enum-told
     same-length
     returns
-    sub-t7
+    sub-t8
     same-length-2
     returns-2)

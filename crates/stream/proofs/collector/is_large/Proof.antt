@@ -6,8 +6,8 @@ use Rattle.stream.proofs.collector.is_large.Tie as tie
 use Rattle.stream.proofs.collector.is_large.Reads as reads
 use Rattle.stream.proofs.collector.is_large.Lts as lts
 
-enum-known-s : tie.Need-enum-known-s
-enum-known-s c = search needs
+enum-known-collector : tie.Need-enum-known-collector
+enum-known-collector c = search needs
 
 enum-told : tie.Need-enum-told
 enum-told c = search needs
@@ -28,4 +28,5 @@ unfolding isLarge
 returns-3 c = search needs
 
 pub is-large-spec : {M : Type 1} → statement M
-is-large-spec = tie.close (tie.spec enum-known-s enum-told enum-told-2 returns returns-2 returns-3)
+is-large-spec =
+    tie.close (tie.spec enum-known-collector enum-told enum-told-2 returns returns-2 returns-3)

@@ -8,7 +8,7 @@ use Rattle.format.specs.StandLaws.{tree-places, holds-labels}
 use Rattle.spec_queries.specs.Query.{match, unwind, project}
 use Rattle.spec_queries.specs.Rules.{OkP, NestedC}
 use Rattle.queries.specs.Places.{pathBytes, criterionBytes, itemsBytes}
-use Rattle.place.specs.WriterLaws.{along-order, along-inside}
+use Rattle.place.specs.WriterLaws.{along-room, along-inside}
 use Rattle.stream.specs.Feed.{OkItems}
 use Rattle.stream.specs.FeedLaws as law
 use Rattle.stream.specs.Unwinding.{Unwinding, LeftFrom, LeftUnder}
@@ -42,6 +42,7 @@ use Rattle.stream.proofs.feed.feed_unwound.Kinds as feed-unwound-kinds
 use Rattle.stream.proofs.feed.+feed+feed_each+feed_elements+feed_looked+feed_matched+feed_outcomes+feed_projected+feed_unwound.Lts-feed_unwound as feed-unwound-lts
 use Rattle.areas.proofs.area.field_end.Reads as field-end-reads
 use Rattle.criteria.proofs.criteria.holds.Reads as holds-reads
+use Rattle.format.proofs.labels.find.Reads as find-reads
 use Rattle.lookup.proofs.lookup.lookup.Reads as lookup-reads
 use Rattle.project.proofs.project.project.Reads as project-reads
 use Rattle.queries.proofs.path.step_at.Reads as step-at-reads
@@ -49,7 +50,6 @@ use Rattle.queries.proofs.path.steps.Reads as steps-reads
 use Rattle.queries.proofs.stage.stage_at.Reads as stage-at-reads
 use Rattle.stream.proofs.collector.collect.Reads as collect-reads
 use Rattle.stream.proofs.collector.is_large.Reads as is-large-reads
-use Rattle.unwind.proofs.unwind.find_entry.Reads as find-entry-reads
 use Rattle.unwind.proofs.unwind.outcomes.Reads as outcomes-reads
 use Rattle.unwind.proofs.unwind.put_element.Reads as put-element-reads
 use Rattle.unwind.proofs.unwind.put_outcome.Reads as put-outcome-reads
@@ -61,28 +61,28 @@ use Rattle.stream.proofs.feed.+feed+feed_each+feed_elements+feed_looked
 }
 
 abbrev μ-feed : Measures 2 feed-kinds.ps ℕ
-μ-feed κs a = 4 * (a .1 .1 .1 .1 .0 - a .1 .1 .1 .0)
+μ-feed κs a = 4 * (a .1 .1 .1 .0 .to - a .1 .1 .1 .0 .from)
 
 abbrev μ-feed-each : Measures 2 feed-each-kinds.ps ℕ
-μ-feed-each κs a = 4 * (a .1 .1 .1 .1 .1 .1 .1 .1 .1 .0 - a .1 .1 .1 .1 .1 .1 .1 .1 .0) + 1
+μ-feed-each κs a = 4 * (a .1 .1 .1 .0 .next .to - a .1 .1 .1 .0 .next .from) + 1
 
 abbrev μ-feed-elements : Measures 2 feed-elements-kinds.ps ℕ
-μ-feed-elements κs a = 4 * (a .1 .1 .1 .1 .1 .1 .0 - a .1 .1 .1 .1 .1 .0) + 2
+μ-feed-elements κs a = 4 * (a .1 .1 .1 .0 .next .to - a .1 .1 .1 .0 .next .from) + 2
 
 abbrev μ-feed-looked : Measures 2 feed-looked-kinds.ps ℕ
-μ-feed-looked κs a = 4 * (a .1 .1 .1 .1 .1 .1 .1 .1 .1 .1 .0 - a .1 .1 .1 .1 .1 .1 .1 .1 .1 .0) + 1
+μ-feed-looked κs a = 4 * (a .1 .1 .1 .1 .0 .to - a .1 .1 .1 .1 .0 .from) + 1
 
 abbrev μ-feed-matched : Measures 2 feed-matched-kinds.ps ℕ
-μ-feed-matched κs a = 4 * (a .1 .1 .1 .1 .1 .1 .0 - a .1 .1 .1 .1 .1 .0) + 1
+μ-feed-matched κs a = 4 * (a .1 .1 .1 .0 .next .to - a .1 .1 .1 .0 .next .from) + 1
 
 abbrev μ-feed-outcomes : Measures 2 feed-outcomes-kinds.ps ℕ
-μ-feed-outcomes κs a = 4 * (a .1 .1 .1 .1 .1 .1 .0 - a .1 .1 .1 .1 .1 .0) + 1
+μ-feed-outcomes κs a = 4 * (a .1 .1 .1 .0 .next .to - a .1 .1 .1 .0 .next .from) + 1
 
 abbrev μ-feed-projected : Measures 2 feed-projected-kinds.ps ℕ
-μ-feed-projected κs a = 4 * (a .1 .1 .1 .1 .1 .1 .0 - a .1 .1 .1 .1 .1 .0) + 1
+μ-feed-projected κs a = 4 * (a .1 .1 .1 .0 .next .to - a .1 .1 .1 .0 .next .from) + 1
 
 abbrev μ-feed-unwound : Measures 2 feed-unwound-kinds.ps ℕ
-μ-feed-unwound κs a = 4 * (a .1 .1 .1 .1 .1 .1 .0 - a .1 .1 .1 .1 .1 .0) + 3
+μ-feed-unwound κs a = 4 * (a .1 .1 .1 .0 .next .to - a .1 .1 .1 .0 .next .from) + 3
 
 abbrev feed-at : ℕ → In 2 feed-kinds.ps
 feed-at t = and 2 feed-kinds.ps (is 2 feed-kinds.ps μ-feed t) feed.Pre
@@ -310,7 +310,7 @@ feed-feed-matched-requires t c κs = (
   law.part-ready (c .before .before .before .before .before .before .if1 .left)
       (c .before .before .before .before .before .field-end .ensures) (NestedC nestMax)
       criterionBytes match law.plain-match (λ a o. o)
-      (λ x i. c .before .before .before .before .stage-at .ensures x i .match-is _ _
+      (λ x i. c .before .before .before .before .stage-at .ensures x i .match-is _
       (c .before .before .stage .given .1))
       (c .before .before .before .before .before .before .before .before .before .before .pre .1),
 )
@@ -354,7 +354,7 @@ feed-returns-2 t c =
     (c .before .before .before .before .before .before .before .before .field-end .ensures)
     (NestedC nestMax) criterionBytes match law.plain-match (λ a o. o)
     (λ x i. c .before .before .before .before .before .before .before .stage-at .ensures x
-    i .match-is _ _ (c .before .before .before .before .before .stage .given .1))
+    i .match-is _ (c .before .before .before .before .before .stage .given .1))
     (c .before .before .feed-matched .ensures)
 
 feed-enum-known-stage-2 : (t : ℕ) → feed-lts.Need-enum-known-stage-2 (
@@ -402,7 +402,7 @@ feed-feed-unwound-requires t c κs = (
   law.part-ready (c .before .before .before .before .before .before .if1 .left)
       (c .before .before .before .before .before .field-end .ensures) OkP pathBytes unwind
       law.plain-unwind (λ a o. o)
-      (λ x i. c .before .before .before .before .stage-at .ensures x i .unwind-is _ _
+      (λ x i. c .before .before .before .before .stage-at .ensures x i .unwind-is _
       (c .before .before .stage2 .given .1))
       (c .before .before .before .before .before .before .before .before .before .before .pre .1),
 )
@@ -446,7 +446,7 @@ feed-returns-3 t c =
     (c .before .before .before .before .before .before .before .before .field-end .ensures) OkP
     pathBytes unwind law.plain-unwind (λ a o. o)
     (λ x i. c .before .before .before .before .before .before .before .stage-at .ensures x
-    i .unwind-is _ _ (c .before .before .before .before .before .stage2 .given .1))
+    i .unwind-is _ (c .before .before .before .before .before .stage2 .given .1))
     (c .before .before .feed-unwound .ensures)
 
 feed-enum-known-stage-3 : (t : ℕ) → feed-lts.Need-enum-known-stage-3 (
@@ -494,7 +494,7 @@ feed-feed-projected-requires t c κs = (
   law.part-ready (c .before .before .before .before .before .before .if1 .left)
       (c .before .before .before .before .before .field-end .ensures) OkItems itemsBytes project
       law.plain-project (λ a o. o)
-      (λ x i. c .before .before .before .before .stage-at .ensures x i .project-is _ _
+      (λ x i. c .before .before .before .before .stage-at .ensures x i .project-is _
       (c .before .before .stage3 .given .1))
       (c .before .before .before .before .before .before .before .before .before .before .pre .1),
 )
@@ -538,7 +538,7 @@ feed-returns-4 t c =
     (c .before .before .before .before .before .before .before .before .field-end .ensures) OkItems
     itemsBytes project law.plain-project (λ a o. o)
     (λ x i. c .before .before .before .before .before .before .before .stage-at .ensures x
-    i .project-is _ _ (c .before .before .before .before .before .stage3 .given .1))
+    i .project-is _ (c .before .before .before .before .before .stage3 .given .1))
     (c .before .before .feed-projected .ensures)
 
 feed-enum-known-stage-4 : (t : ℕ) → feed-lts.Need-enum-known-stage-4 (
@@ -664,7 +664,7 @@ feed-feed-looked-requires t c κs = (
   )),
   law.join-ready (c .before .before .before .before .before .before .if1 .left)
       (c .before .before .before .before .before .field-end .ensures)
-      (λ x i. c .before .before .before .before .stage-at .ensures x i .lookup-is _ _ _ _ _ _
+      (λ x i. c .before .before .before .before .stage-at .ensures x i .lookup-is _
       (c .before .before .stage5 .given .1))
       (c .before .before .before .before .before .before .before .before .before .before .pre .1),
 )
@@ -707,15 +707,28 @@ feed-returns-6 t c =
     law.feed-join (c .before .before .before .before .before .before .before .before .before .if1 .left)
     (c .before .before .before .before .before .before .before .before .field-end .ensures)
     (λ x i. c .before .before .before .before .before .before .before .stage-at .ensures x
-    i .lookup-is _ _ _ _ _ _ (c .before .before .before .before .before .stage5 .given .1))
+    i .lookup-is _ (c .before .before .before .before .before .stage5 .given .1))
     (c .before .before .feed-looked .ensures)
 
 abbrev feed-each-Inv-loop : feed-each-lts.InvT-loop
-feed-each-Inv-loop t₀ te q c ce k f u m e j collector₀ x₀ t collector x =
-    Unwinding (LeftUnder k t₀ x u) t₀ te q c ce m e j collector₀ t collector
+feed-each-Inv-loop tail₀ end query at entry joined tree room trees stop held₀ from₀ tail held from =
+    Unwinding (LeftUnder (entry .label) tail₀ from stop) tail₀ end query at joined held₀ tail held
 
 abbrev feed-each-μ-loop : feed-each-lts.MeasureT-loop
-feed-each-μ-loop t₀ te q c ce k f u m e j collector₀ x₀ t collector x = u - x
+feed-each-μ-loop tail₀ end query at entry joined tree room trees stop held₀ from₀ tail held from =
+    stop - from
+
+feed-each-mul-t18 : (t : ℕ) → feed-each-lts.Need-mul-t18 (
+  field-end-reads.Asked,
+  field-end-reads.Learnt,
+  put-element-reads.Asked,
+  put-element-reads.Learnt,
+  feed-below t,
+  feed.Post,
+  is-large-reads.Asked,
+  is-large-reads.Learnt,
+) (feed-each-at t) feed-each.Post feed-each-Inv-loop feed-each-μ-loop
+feed-each-mul-t18 t c = search needs
 
 feed-each-loop-holds : (t : ℕ) → feed-each-lts.Need-loop-holds (
   field-end-reads.Asked,
@@ -728,8 +741,8 @@ feed-each-loop-holds : (t : ℕ) → feed-each-lts.Need-loop-holds (
   is-large-reads.Learnt,
 ) (feed-each-at t) feed-each.Post feed-each-Inv-loop feed-each-μ-loop
 feed-each-loop-holds t c =
-    each.elements-begin (c .before .before .before .pre .1 .0)
-    (c .before .before .before .pre .1 .1)
+    each.elements-begin (c .before .before .before .before .pre .1 .0)
+    (c .before .before .before .before .pre .1 .1)
 
 feed-each-field-end-requires : (t : ℕ) → feed-each-lts.Need-field-end-requires (
   field-end-reads.Asked,
@@ -745,22 +758,10 @@ feed-each-field-end-requires t c κs =
     omega (
       arith,
       each.element-places
-          (c .before .before .before .before .before .before .pre .1 .0)
-          (c .before .before .before .before .before .before .pre .1 .1) (c .before .before .loop .inv)
-          (c .before .loop-test .taken) refl,
+          (c .before .before .before .before .before .before .before .pre .1 .0)
+          (c .before .before .before .before .before .before .before .pre .1 .1)
+          (c .before .before .loop .inv) (c .before .loop-test .taken) refl,
     )
-
-feed-each-mul-put-element : (t : ℕ) → feed-each-lts.Need-mul-put-element (
-  field-end-reads.Asked,
-  field-end-reads.Learnt,
-  put-element-reads.Asked,
-  put-element-reads.Learnt,
-  feed-below t,
-  feed.Post,
-  is-large-reads.Asked,
-  is-large-reads.Learnt,
-) (feed-each-at t) feed-each.Post feed-each-Inv-loop feed-each-μ-loop
-feed-each-mul-put-element t c = search needs
 
 feed-each-put-element-requires : (t : ℕ) → feed-each-lts.Need-put-element-requires (
   field-end-reads.Asked,
@@ -773,8 +774,8 @@ feed-each-put-element-requires : (t : ℕ) → feed-each-lts.Need-put-element-re
   is-large-reads.Learnt,
 ) (feed-each-at t) feed-each.Post feed-each-Inv-loop feed-each-μ-loop
 feed-each-put-element-requires t c κs =
-    each.element-ready (c .before .before .before .before .before .before .before .before .pre .1 .0)
-    (c .before .before .before .before .before .before .before .before .pre .1 .1)
+    each.element-ready (c .before .before .before .before .before .before .before .before .before .pre .1 .0)
+    (c .before .before .before .before .before .before .before .before .before .pre .1 .1)
     (c .before .before .before .before .loop .inv) (c .before .before .before .loop-test .taken)
     (c .before .field-end .ensures)
 
@@ -826,8 +827,8 @@ feed-each-returns : (t : ℕ) → feed-each-lts.Need-returns (
 ) (feed-each-at t) feed-each.Post feed-each-Inv-loop feed-each-μ-loop
 feed-each-returns t c =
     absurd (each.element-never
-    (c .before .before .before .before .before .before .before .before .before .before .before .before .before .pre .1 .0)
-    (c .before .before .before .before .before .before .before .before .before .before .before .before .before .pre .1 .1)
+    (c .before .before .before .before .before .before .before .before .before .before .before .before .before .before .pre .1 .0)
+    (c .before .before .before .before .before .before .before .before .before .before .before .before .before .before .pre .1 .1)
     (c .before .before .before .before .before .before .before .before .before .loop .inv)
     (c .before .before .before .before .before .before .before .before .loop-test .taken)
     (c .before .before .before .before .before .before .field-end .ensures)
@@ -847,7 +848,7 @@ feed-each-sub-feed : (t : ℕ) → feed-each-lts.Need-sub-feed (
 feed-each-sub-feed t c =
     omega (
       arith,
-      each.wide (c .before .before .before .before .before .before .before .before .before .before .before .before .before .before .pre .1 .0)
+      each.wide (c .before .before .before .before .before .before .before .before .before .before .before .before .before .before .before .pre .1 .0)
           (c .before .before .before .before .before .before .before .before .before .before .loop .inv),
       c .before .before .before .before .before .put-element .kept .0,
     )
@@ -865,7 +866,7 @@ feed-each-part-feed-start : (t : ℕ) → feed-each-lts.Need-part-feed-start (
 feed-each-part-feed-start t c =
     omega (
       arith,
-      each.wide (c .before .before .before .before .before .before .before .before .before .before .before .before .before .before .pre .1 .0)
+      each.wide (c .before .before .before .before .before .before .before .before .before .before .before .before .before .before .before .pre .1 .0)
           (c .before .before .before .before .before .before .before .before .before .before .loop .inv),
       c .before .before .before .before .before .put-element .kept .0,
     )
@@ -883,7 +884,7 @@ feed-each-part-feed-end : (t : ℕ) → feed-each-lts.Need-part-feed-end (
 feed-each-part-feed-end t c =
     omega (
       arith,
-      each.wide (c .before .before .before .before .before .before .before .before .before .before .before .before .before .before .pre .1 .0)
+      each.wide (c .before .before .before .before .before .before .before .before .before .before .before .before .before .before .before .pre .1 .0)
           (c .before .before .before .before .before .before .before .before .before .before .loop .inv),
       c .before .before .before .before .before .put-element .kept .0,
     )
@@ -899,25 +900,25 @@ feed-each-sub-feed-2 : (t : ℕ) → feed-each-lts.Need-sub-feed-2 (
   is-large-reads.Learnt,
 ) (feed-each-at t) feed-each.Post feed-each-Inv-loop feed-each-μ-loop
 feed-each-sub-feed-2 t c =
-    each.outcome-end (c .before .before .before .before .before .before .before .before .before .before .before .before .before .before .before .pre .1 .0)
+    each.outcome-end (c .before .before .before .before .before .before .before .before .before .before .before .before .before .before .before .before .pre .1 .0)
     (c .before .before .before .before .before .before .before .before .before .before .before .loop .inv)
     (c .before .before .before .before .before .before .put-element .kept .0)
-    (each.element-kept (c .before .before .before .before .before .before .before .before .before .before .before .before .before .before .before .pre .1 .0)
-    (c .before .before .before .before .before .before .before .before .before .before .before .before .before .before .before .pre .1 .1)
-    (c .before .before .before .before .before .before .before .before .before .before .before .loop .inv)
-    (c .before .before .before .before .before .before .before .before .before .before .loop-test .taken)
-    (c .before .before .before .before .before .before .before .before .field-end .ensures)
-    (c .before .before .before .before .before .before .put-element .kept .0)
-    (c .before .before .before .before .before .before .put-element .ensures))
-    (each.element-ends (c .before .before .before .before .before .before .before .before .before .before .before .before .before .before .before .pre .1 .0)
-    (c .before .before .before .before .before .before .before .before .before .before .before .before .before .before .before .pre .1 .1)
+    (each.element-kept (c .before .before .before .before .before .before .before .before .before .before .before .before .before .before .before .before .pre .1 .0)
+    (c .before .before .before .before .before .before .before .before .before .before .before .before .before .before .before .before .pre .1 .1)
     (c .before .before .before .before .before .before .before .before .before .before .before .loop .inv)
     (c .before .before .before .before .before .before .before .before .before .before .loop-test .taken)
     (c .before .before .before .before .before .before .before .before .field-end .ensures)
     (c .before .before .before .before .before .before .put-element .kept .0)
     (c .before .before .before .before .before .before .put-element .ensures))
-    (each.element-parts (c .before .before .before .before .before .before .before .before .before .before .before .before .before .before .before .pre .1 .0)
-    (c .before .before .before .before .before .before .before .before .before .before .before .before .before .before .before .pre .1 .1)
+    (each.element-ends (c .before .before .before .before .before .before .before .before .before .before .before .before .before .before .before .before .pre .1 .0)
+    (c .before .before .before .before .before .before .before .before .before .before .before .before .before .before .before .before .pre .1 .1)
+    (c .before .before .before .before .before .before .before .before .before .before .before .loop .inv)
+    (c .before .before .before .before .before .before .before .before .before .before .loop-test .taken)
+    (c .before .before .before .before .before .before .before .before .field-end .ensures)
+    (c .before .before .before .before .before .before .put-element .kept .0)
+    (c .before .before .before .before .before .before .put-element .ensures))
+    (each.element-parts (c .before .before .before .before .before .before .before .before .before .before .before .before .before .before .before .before .pre .1 .0)
+    (c .before .before .before .before .before .before .before .before .before .before .before .before .before .before .before .before .pre .1 .1)
     (c .before .before .before .before .before .before .before .before .before .before .before .loop .inv)
     (c .before .before .before .before .before .before .before .before .before .before .loop-test .taken)
     (c .before .before .before .before .before .before .before .before .field-end .ensures)
@@ -936,26 +937,26 @@ feed-each-feed-requires : (t : ℕ) → feed-each-lts.Need-feed-requires (
   is-large-reads.Learnt,
 ) (feed-each-at t) feed-each.Post feed-each-Inv-loop feed-each-μ-loop
 feed-each-feed-requires t c κs = (
-  omega (arith, c .before .before .before .before .before .before .before .before .before .before .before .before .before .before .before .pre .0),
-  each.outcome-ready (c .before .before .before .before .before .before .before .before .before .before .before .before .before .before .before .pre .1 .0)
+  omega (arith, c .before .before .before .before .before .before .before .before .before .before .before .before .before .before .before .before .pre .0),
+  each.outcome-ready (c .before .before .before .before .before .before .before .before .before .before .before .before .before .before .before .before .pre .1 .0)
       (c .before .before .before .before .before .before .before .before .before .before .before .loop .inv)
       (c .before .before .before .before .before .before .put-element .kept .0)
-      (each.element-kept (c .before .before .before .before .before .before .before .before .before .before .before .before .before .before .before .pre .1 .0)
-      (c .before .before .before .before .before .before .before .before .before .before .before .before .before .before .before .pre .1 .1)
-      (c .before .before .before .before .before .before .before .before .before .before .before .loop .inv)
-      (c .before .before .before .before .before .before .before .before .before .before .loop-test .taken)
-      (c .before .before .before .before .before .before .before .before .field-end .ensures)
-      (c .before .before .before .before .before .before .put-element .kept .0)
-      (c .before .before .before .before .before .before .put-element .ensures))
-      (each.element-ends (c .before .before .before .before .before .before .before .before .before .before .before .before .before .before .before .pre .1 .0)
-      (c .before .before .before .before .before .before .before .before .before .before .before .before .before .before .before .pre .1 .1)
+      (each.element-kept (c .before .before .before .before .before .before .before .before .before .before .before .before .before .before .before .before .pre .1 .0)
+      (c .before .before .before .before .before .before .before .before .before .before .before .before .before .before .before .before .pre .1 .1)
       (c .before .before .before .before .before .before .before .before .before .before .before .loop .inv)
       (c .before .before .before .before .before .before .before .before .before .before .loop-test .taken)
       (c .before .before .before .before .before .before .before .before .field-end .ensures)
       (c .before .before .before .before .before .before .put-element .kept .0)
       (c .before .before .before .before .before .before .put-element .ensures))
-      (each.element-parts (c .before .before .before .before .before .before .before .before .before .before .before .before .before .before .before .pre .1 .0)
-      (c .before .before .before .before .before .before .before .before .before .before .before .before .before .before .before .pre .1 .1)
+      (each.element-ends (c .before .before .before .before .before .before .before .before .before .before .before .before .before .before .before .before .pre .1 .0)
+      (c .before .before .before .before .before .before .before .before .before .before .before .before .before .before .before .before .pre .1 .1)
+      (c .before .before .before .before .before .before .before .before .before .before .before .loop .inv)
+      (c .before .before .before .before .before .before .before .before .before .before .loop-test .taken)
+      (c .before .before .before .before .before .before .before .before .field-end .ensures)
+      (c .before .before .before .before .before .before .put-element .kept .0)
+      (c .before .before .before .before .before .before .put-element .ensures))
+      (each.element-parts (c .before .before .before .before .before .before .before .before .before .before .before .before .before .before .before .before .pre .1 .0)
+      (c .before .before .before .before .before .before .before .before .before .before .before .before .before .before .before .before .pre .1 .1)
       (c .before .before .before .before .before .before .before .before .before .before .before .loop .inv)
       (c .before .before .before .before .before .before .before .before .before .before .loop-test .taken)
       (c .before .before .before .before .before .before .before .before .field-end .ensures)
@@ -999,25 +1000,25 @@ feed-each-returns-2 : (t : ℕ) → feed-each-lts.Need-returns-2 (
   is-large-reads.Learnt,
 ) (feed-each-at t) feed-each.Post feed-each-Inv-loop feed-each-μ-loop
 feed-each-returns-2 t c =
-    each.unwinding-stop (c .before .before .before .before .before .before .before .before .before .before .before .before .before .before .before .before .before .before .before .before .pre .1 .0)
+    each.unwinding-stop (c .before .before .before .before .before .before .before .before .before .before .before .before .before .before .before .before .before .before .before .before .before .pre .1 .0)
     (c .before .before .before .before .before .before .before .before .before .before .before .before .before .before .before .before .loop .inv)
     (c .before .before .before .before .before .before .before .before .before .before .before .put-element .kept .0)
-    (each.element-kept (c .before .before .before .before .before .before .before .before .before .before .before .before .before .before .before .before .before .before .before .before .pre .1 .0)
-    (c .before .before .before .before .before .before .before .before .before .before .before .before .before .before .before .before .before .before .before .before .pre .1 .1)
-    (c .before .before .before .before .before .before .before .before .before .before .before .before .before .before .before .before .loop .inv)
-    (c .before .before .before .before .before .before .before .before .before .before .before .before .before .before .before .loop-test .taken)
-    (c .before .before .before .before .before .before .before .before .before .before .before .before .before .field-end .ensures)
-    (c .before .before .before .before .before .before .before .before .before .before .before .put-element .kept .0)
-    (c .before .before .before .before .before .before .before .before .before .before .before .put-element .ensures))
-    (each.element-ends (c .before .before .before .before .before .before .before .before .before .before .before .before .before .before .before .before .before .before .before .before .pre .1 .0)
-    (c .before .before .before .before .before .before .before .before .before .before .before .before .before .before .before .before .before .before .before .before .pre .1 .1)
+    (each.element-kept (c .before .before .before .before .before .before .before .before .before .before .before .before .before .before .before .before .before .before .before .before .before .pre .1 .0)
+    (c .before .before .before .before .before .before .before .before .before .before .before .before .before .before .before .before .before .before .before .before .before .pre .1 .1)
     (c .before .before .before .before .before .before .before .before .before .before .before .before .before .before .before .before .loop .inv)
     (c .before .before .before .before .before .before .before .before .before .before .before .before .before .before .before .loop-test .taken)
     (c .before .before .before .before .before .before .before .before .before .before .before .before .before .field-end .ensures)
     (c .before .before .before .before .before .before .before .before .before .before .before .put-element .kept .0)
     (c .before .before .before .before .before .before .before .before .before .before .before .put-element .ensures))
-    (each.element-parts (c .before .before .before .before .before .before .before .before .before .before .before .before .before .before .before .before .before .before .before .before .pre .1 .0)
-    (c .before .before .before .before .before .before .before .before .before .before .before .before .before .before .before .before .before .before .before .before .pre .1 .1)
+    (each.element-ends (c .before .before .before .before .before .before .before .before .before .before .before .before .before .before .before .before .before .before .before .before .before .pre .1 .0)
+    (c .before .before .before .before .before .before .before .before .before .before .before .before .before .before .before .before .before .before .before .before .before .pre .1 .1)
+    (c .before .before .before .before .before .before .before .before .before .before .before .before .before .before .before .before .loop .inv)
+    (c .before .before .before .before .before .before .before .before .before .before .before .before .before .before .before .loop-test .taken)
+    (c .before .before .before .before .before .before .before .before .before .before .before .before .before .field-end .ensures)
+    (c .before .before .before .before .before .before .before .before .before .before .before .put-element .kept .0)
+    (c .before .before .before .before .before .before .before .before .before .before .before .put-element .ensures))
+    (each.element-parts (c .before .before .before .before .before .before .before .before .before .before .before .before .before .before .before .before .before .before .before .before .before .pre .1 .0)
+    (c .before .before .before .before .before .before .before .before .before .before .before .before .before .before .before .before .before .before .before .before .before .pre .1 .1)
     (c .before .before .before .before .before .before .before .before .before .before .before .before .before .before .before .before .loop .inv)
     (c .before .before .before .before .before .before .before .before .before .before .before .before .before .before .before .loop-test .taken)
     (c .before .before .before .before .before .before .before .before .before .before .before .before .before .field-end .ensures)
@@ -1042,8 +1043,8 @@ feed-each-loop-less t c =
     omega (
       arith,
       each.element-places
-          (c .before .before .before .before .before .before .before .before .before .before .before .before .before .before .before .before .before .before .before .before .pre .1 .0)
-          (c .before .before .before .before .before .before .before .before .before .before .before .before .before .before .before .before .before .before .before .before .pre .1 .1)
+          (c .before .before .before .before .before .before .before .before .before .before .before .before .before .before .before .before .before .before .before .before .before .pre .1 .0)
+          (c .before .before .before .before .before .before .before .before .before .before .before .before .before .before .before .before .before .before .before .before .before .pre .1 .1)
           (c .before .before .before .before .before .before .before .before .before .before .before .before .before .before .before .before .loop .inv)
           (c .before .before .before .before .before .before .before .before .before .before .before .before .before .before .before .loop-test .taken)
           (c .before .before .before .before .before .before .before .before .before .before .before .before .before .field-end .ensures),
@@ -1060,25 +1061,25 @@ feed-each-loop-again : (t : ℕ) → feed-each-lts.Need-loop-again (
   is-large-reads.Learnt,
 ) (feed-each-at t) feed-each.Post feed-each-Inv-loop feed-each-μ-loop
 feed-each-loop-again t c =
-    each.unwinding-next (c .before .before .before .before .before .before .before .before .before .before .before .before .before .before .before .before .before .before .before .before .pre .1 .0)
+    each.unwinding-next (c .before .before .before .before .before .before .before .before .before .before .before .before .before .before .before .before .before .before .before .before .before .pre .1 .0)
     (c .before .before .before .before .before .before .before .before .before .before .before .before .before .before .before .before .loop .inv)
     (c .before .before .before .before .before .before .before .before .before .before .before .put-element .kept .0)
-    (each.element-kept (c .before .before .before .before .before .before .before .before .before .before .before .before .before .before .before .before .before .before .before .before .pre .1 .0)
-    (c .before .before .before .before .before .before .before .before .before .before .before .before .before .before .before .before .before .before .before .before .pre .1 .1)
-    (c .before .before .before .before .before .before .before .before .before .before .before .before .before .before .before .before .loop .inv)
-    (c .before .before .before .before .before .before .before .before .before .before .before .before .before .before .before .loop-test .taken)
-    (c .before .before .before .before .before .before .before .before .before .before .before .before .before .field-end .ensures)
-    (c .before .before .before .before .before .before .before .before .before .before .before .put-element .kept .0)
-    (c .before .before .before .before .before .before .before .before .before .before .before .put-element .ensures))
-    (each.element-ends (c .before .before .before .before .before .before .before .before .before .before .before .before .before .before .before .before .before .before .before .before .pre .1 .0)
-    (c .before .before .before .before .before .before .before .before .before .before .before .before .before .before .before .before .before .before .before .before .pre .1 .1)
+    (each.element-kept (c .before .before .before .before .before .before .before .before .before .before .before .before .before .before .before .before .before .before .before .before .before .pre .1 .0)
+    (c .before .before .before .before .before .before .before .before .before .before .before .before .before .before .before .before .before .before .before .before .before .pre .1 .1)
     (c .before .before .before .before .before .before .before .before .before .before .before .before .before .before .before .before .loop .inv)
     (c .before .before .before .before .before .before .before .before .before .before .before .before .before .before .before .loop-test .taken)
     (c .before .before .before .before .before .before .before .before .before .before .before .before .before .field-end .ensures)
     (c .before .before .before .before .before .before .before .before .before .before .before .put-element .kept .0)
     (c .before .before .before .before .before .before .before .before .before .before .before .put-element .ensures))
-    (each.element-parts (c .before .before .before .before .before .before .before .before .before .before .before .before .before .before .before .before .before .before .before .before .pre .1 .0)
-    (c .before .before .before .before .before .before .before .before .before .before .before .before .before .before .before .before .before .before .before .before .pre .1 .1)
+    (each.element-ends (c .before .before .before .before .before .before .before .before .before .before .before .before .before .before .before .before .before .before .before .before .before .pre .1 .0)
+    (c .before .before .before .before .before .before .before .before .before .before .before .before .before .before .before .before .before .before .before .before .before .pre .1 .1)
+    (c .before .before .before .before .before .before .before .before .before .before .before .before .before .before .before .before .loop .inv)
+    (c .before .before .before .before .before .before .before .before .before .before .before .before .before .before .before .loop-test .taken)
+    (c .before .before .before .before .before .before .before .before .before .before .before .before .before .field-end .ensures)
+    (c .before .before .before .before .before .before .before .before .before .before .before .put-element .kept .0)
+    (c .before .before .before .before .before .before .before .before .before .before .before .put-element .ensures))
+    (each.element-parts (c .before .before .before .before .before .before .before .before .before .before .before .before .before .before .before .before .before .before .before .before .before .pre .1 .0)
+    (c .before .before .before .before .before .before .before .before .before .before .before .before .before .before .before .before .before .before .before .before .before .pre .1 .1)
     (c .before .before .before .before .before .before .before .before .before .before .before .before .before .before .before .before .loop .inv)
     (c .before .before .before .before .before .before .before .before .before .before .before .before .before .before .before .loop-test .taken)
     (c .before .before .before .before .before .before .before .before .before .before .before .before .before .field-end .ensures)
@@ -1112,8 +1113,8 @@ feed-each-returns-3 : (t : ℕ) → feed-each-lts.Need-returns-3 (
   is-large-reads.Learnt,
 ) (feed-each-at t) feed-each.Post feed-each-Inv-loop feed-each-μ-loop
 feed-each-returns-3 t c =
-    each.elements-end (c .before .before .before .before .before .pre .1 .0)
-    (c .before .before .before .before .before .pre .1 .1) (c .before .loop .inv)
+    each.elements-end (c .before .before .before .before .before .before .pre .1 .0)
+    (c .before .before .before .before .before .before .pre .1 .1) (c .before .loop .inv)
     (c .loop-test .left)
 
 feed-elements-step-at-requires : (t : ℕ) → feed-elements-lts.Need-step-at-requires (
@@ -1121,8 +1122,8 @@ feed-elements-step-at-requires : (t : ℕ) → feed-elements-lts.Need-step-at-re
   step-at-reads.Learnt,
   field-end-reads.Asked,
   field-end-reads.Learnt,
-  find-entry-reads.Asked,
-  find-entry-reads.Learnt,
+  find-reads.Asked,
+  find-reads.Learnt,
   feed-each-below t,
   feed-each.Post,
   feed-below t,
@@ -1137,8 +1138,8 @@ feed-elements-field-end-requires : (t : ℕ) → feed-elements-lts.Need-field-en
   step-at-reads.Learnt,
   field-end-reads.Asked,
   field-end-reads.Learnt,
-  find-entry-reads.Asked,
-  find-entry-reads.Learnt,
+  find-reads.Asked,
+  find-reads.Learnt,
   feed-each-below t,
   feed-each.Post,
   feed-below t,
@@ -1151,19 +1152,19 @@ feed-elements-field-end-requires t c κs =
           (each.front-tree (c .before .before .before .before .before .pre .1 .0)) refl,
     )
 
-feed-elements-find-entry-requires : (t : ℕ) → feed-elements-lts.Need-find-entry-requires (
+feed-elements-find-requires : (t : ℕ) → feed-elements-lts.Need-find-requires (
   step-at-reads.Asked,
   step-at-reads.Learnt,
   field-end-reads.Asked,
   field-end-reads.Learnt,
-  find-entry-reads.Asked,
-  find-entry-reads.Learnt,
+  find-reads.Asked,
+  find-reads.Learnt,
   feed-each-below t,
   feed-each.Post,
   feed-below t,
   feed.Post,
 ) (feed-elements-at t) feed-elements.Post
-feed-elements-find-entry-requires t c κs =
+feed-elements-find-requires t c κs =
     holds-labels (each.front-tree
     (c .before .before .before .before .before .before .before .pre .1 .0))
     (c .before .field-end .ensures)
@@ -1173,8 +1174,8 @@ feed-elements-enum-known-found : (t : ℕ) → feed-elements-lts.Need-enum-known
   step-at-reads.Learnt,
   field-end-reads.Asked,
   field-end-reads.Learnt,
-  find-entry-reads.Asked,
-  find-entry-reads.Learnt,
+  find-reads.Asked,
+  find-reads.Learnt,
   feed-each-below t,
   feed-each.Post,
   feed-below t,
@@ -1187,8 +1188,8 @@ feed-elements-enum-told : (t : ℕ) → feed-elements-lts.Need-enum-told (
   step-at-reads.Learnt,
   field-end-reads.Asked,
   field-end-reads.Learnt,
-  find-entry-reads.Asked,
-  find-entry-reads.Learnt,
+  find-reads.Asked,
+  find-reads.Learnt,
   feed-each-below t,
   feed-each.Post,
   feed-below t,
@@ -1201,8 +1202,8 @@ feed-elements-same-length : (t : ℕ) → feed-elements-lts.Need-same-length (
   step-at-reads.Learnt,
   field-end-reads.Asked,
   field-end-reads.Learnt,
-  find-entry-reads.Asked,
-  find-entry-reads.Learnt,
+  find-reads.Asked,
+  find-reads.Learnt,
   feed-each-below t,
   feed-each.Post,
   feed-below t,
@@ -1215,8 +1216,8 @@ feed-elements-returns : (t : ℕ) → feed-elements-lts.Need-returns (
   step-at-reads.Learnt,
   field-end-reads.Asked,
   field-end-reads.Learnt,
-  find-entry-reads.Asked,
-  find-entry-reads.Learnt,
+  find-reads.Asked,
+  find-reads.Learnt,
   feed-each-below t,
   feed-each.Post,
   feed-below t,
@@ -1226,16 +1227,16 @@ feed-elements-returns t c =
     each.elements-missing (c .before .before .before .before .before .before .before .before .before .before .pre .1 .0)
     (c .before .before .before .before .before .before .before .before .before .before .pre .1 .1)
     (c .before .before .before .before .before .before .step-at .ensures)
-    (c .before .before .before .before .field-end .ensures)
-    (c .before .before .find-entry .ensures) (c .enum-told .given .1)
+    (c .before .before .before .before .field-end .ensures) (c .before .before .find .ensures)
+    (c .enum-told .given .1)
 
 feed-elements-same-length-2 : (t : ℕ) → feed-elements-lts.Need-same-length-2 (
   step-at-reads.Asked,
   step-at-reads.Learnt,
   field-end-reads.Asked,
   field-end-reads.Learnt,
-  find-entry-reads.Asked,
-  find-entry-reads.Learnt,
+  find-reads.Asked,
+  find-reads.Learnt,
   feed-each-below t,
   feed-each.Post,
   feed-below t,
@@ -1248,8 +1249,8 @@ feed-elements-returns-2 : (t : ℕ) → feed-elements-lts.Need-returns-2 (
   step-at-reads.Learnt,
   field-end-reads.Asked,
   field-end-reads.Learnt,
-  find-entry-reads.Asked,
-  find-entry-reads.Learnt,
+  find-reads.Asked,
+  find-reads.Learnt,
   feed-each-below t,
   feed-each.Post,
   feed-below t,
@@ -1261,13 +1262,13 @@ feed-elements-returns-2 t c =
     (c .before .before .before .before .before .before .before .before .before .before .before .before .pre .1 .1)
     (c .before .before .before .before .before .before .before .before .step-at .ensures)
     (c .before .before .before .before .before .before .field-end .ensures)
-    (c .before .before .before .before .find-entry .ensures) (c .before .before .found .given .1))
+    (c .before .before .before .before .find .ensures) (c .before .before .found .given .1))
     (each.elements-begin (c .before .before .before .before .before .before .before .before .before .before .before .before .pre .1 .0)
     (each.elements-under (c .before .before .before .before .before .before .before .before .before .before .before .before .pre .1 .0)
     (c .before .before .before .before .before .before .before .before .before .before .before .before .pre .1 .1)
     (c .before .before .before .before .before .before .before .before .step-at .ensures)
     (c .before .before .before .before .before .before .field-end .ensures)
-    (c .before .before .before .before .find-entry .ensures) (c .before .before .found .given .1)))
+    (c .before .before .before .before .find .ensures) (c .before .before .found .given .1)))
     (c .if1 .taken)
 
 feed-elements-field-end-requires-2 : (t : ℕ) → feed-elements-lts.Need-field-end-requires-2 (
@@ -1275,8 +1276,8 @@ feed-elements-field-end-requires-2 : (t : ℕ) → feed-elements-lts.Need-field-
   step-at-reads.Learnt,
   field-end-reads.Asked,
   field-end-reads.Learnt,
-  find-entry-reads.Asked,
-  find-entry-reads.Learnt,
+  find-reads.Asked,
+  find-reads.Learnt,
   feed-each-below t,
   feed-each.Post,
   feed-below t,
@@ -1291,14 +1292,14 @@ feed-elements-field-end-requires-2 t c κs =
           (c .before .before .before .before .before .before .before .before .before .before .before .before .before .pre .1 .1)
           (c .before .before .before .before .before .before .before .before .before .step-at .ensures)
           (c .before .before .before .before .before .before .before .field-end .ensures)
-          (c .before .before .before .before .before .find-entry .ensures)
+          (c .before .before .before .before .before .find .ensures)
           (c .before .before .before .found .given .1))
           (each.elements-begin (c .before .before .before .before .before .before .before .before .before .before .before .before .before .pre .1 .0)
           (each.elements-under (c .before .before .before .before .before .before .before .before .before .before .before .before .before .pre .1 .0)
           (c .before .before .before .before .before .before .before .before .before .before .before .before .before .pre .1 .1)
           (c .before .before .before .before .before .before .before .before .before .step-at .ensures)
           (c .before .before .before .before .before .before .before .field-end .ensures)
-          (c .before .before .before .before .before .find-entry .ensures)
+          (c .before .before .before .before .before .find .ensures)
           (c .before .before .before .found .given .1))) (c .before .if1 .left) refl,
     )
 
@@ -1307,8 +1308,8 @@ feed-elements-feed-each-requires : (t : ℕ) → feed-elements-lts.Need-feed-eac
   step-at-reads.Learnt,
   field-end-reads.Asked,
   field-end-reads.Learnt,
-  find-entry-reads.Asked,
-  find-entry-reads.Learnt,
+  find-reads.Asked,
+  find-reads.Learnt,
   feed-each-below t,
   feed-each.Post,
   feed-below t,
@@ -1322,7 +1323,7 @@ feed-elements-feed-each-requires t c κs = (
         (c .before .before .before .before .before .before .before .before .before .before .before .before .before .before .before .before .pre .1 .1)
         (c .before .before .before .before .before .before .before .before .before .before .before .before .step-at .ensures)
         (c .before .before .before .before .before .before .before .before .before .before .field-end .ensures)
-        (c .before .before .before .before .before .before .before .before .find-entry .ensures)
+        (c .before .before .before .before .before .before .before .before .find .ensures)
         (c .before .before .before .before .before .before .found .given .1)),
   ),
 )
@@ -1332,8 +1333,8 @@ feed-elements-same-length-3 : (t : ℕ) → feed-elements-lts.Need-same-length-3
   step-at-reads.Learnt,
   field-end-reads.Asked,
   field-end-reads.Learnt,
-  find-entry-reads.Asked,
-  find-entry-reads.Learnt,
+  find-reads.Asked,
+  find-reads.Learnt,
   feed-each-below t,
   feed-each.Post,
   feed-below t,
@@ -1346,8 +1347,8 @@ feed-elements-returns-3 : (t : ℕ) → feed-elements-lts.Need-returns-3 (
   step-at-reads.Learnt,
   field-end-reads.Asked,
   field-end-reads.Learnt,
-  find-entry-reads.Asked,
-  find-entry-reads.Learnt,
+  find-reads.Asked,
+  find-reads.Learnt,
   feed-each-below t,
   feed-each.Post,
   feed-below t,
@@ -1360,8 +1361,8 @@ feed-elements-feed-requires : (t : ℕ) → feed-elements-lts.Need-feed-requires
   step-at-reads.Learnt,
   field-end-reads.Asked,
   field-end-reads.Learnt,
-  find-entry-reads.Asked,
-  find-entry-reads.Learnt,
+  find-reads.Asked,
+  find-reads.Learnt,
   feed-each-below t,
   feed-each.Post,
   feed-below t,
@@ -1377,8 +1378,8 @@ feed-elements-same-length-4 : (t : ℕ) → feed-elements-lts.Need-same-length-4
   step-at-reads.Learnt,
   field-end-reads.Asked,
   field-end-reads.Learnt,
-  find-entry-reads.Asked,
-  find-entry-reads.Learnt,
+  find-reads.Asked,
+  find-reads.Learnt,
   feed-each-below t,
   feed-each.Post,
   feed-below t,
@@ -1391,8 +1392,8 @@ feed-elements-returns-4 : (t : ℕ) → feed-elements-lts.Need-returns-4 (
   step-at-reads.Learnt,
   field-end-reads.Asked,
   field-end-reads.Learnt,
-  find-entry-reads.Asked,
-  find-entry-reads.Learnt,
+  find-reads.Asked,
+  find-reads.Learnt,
   feed-each-below t,
   feed-each.Post,
   feed-below t,
@@ -1404,7 +1405,7 @@ feed-elements-returns-4 t c =
     (c .before .before .before .before .before .before .before .before .before .before .before .before .before .before .before .before .before .before .before .pre .1 .1)
     (c .before .before .before .before .before .before .before .before .before .before .before .before .before .before .before .step-at .ensures)
     (c .before .before .before .before .before .before .before .before .before .before .before .before .before .field-end .ensures)
-    (c .before .before .before .before .before .before .before .before .before .before .before .find-entry .ensures)
+    (c .before .before .before .before .before .before .before .before .before .before .before .find .ensures)
     (c .before .before .before .before .before .before .before .before .before .found .given .1))
     (c .before .before .before .before .before .before .before .if1 .left)
     (c .before .before .before .before .before .field-end2 .ensures)
@@ -1544,11 +1545,23 @@ feed-matched-returns-2 t c =
     (c .before .holds .ensures) (c .if1 .left)
 
 abbrev feed-outcomes-Inv-loop : feed-outcomes-lts.InvT-loop
-feed-outcomes-Inv-loop t₀ te q c ce m e j n collector₀ i₀ t collector i =
-    Unwinding (LeftFrom i) t₀ te q c ce m e j collector₀ t collector
+feed-outcomes-Inv-loop tail₀ end query at joined tree room n held₀ i₀ tail held i =
+    Unwinding (LeftFrom i) tail₀ end query at joined held₀ tail held
 
 abbrev feed-outcomes-μ-loop : feed-outcomes-lts.MeasureT-loop
-feed-outcomes-μ-loop t₀ te q c ce m e j n collector₀ i₀ t collector i = n - i
+feed-outcomes-μ-loop tail₀ end query at joined tree room n held₀ i₀ tail held i = n - i
+
+feed-outcomes-mul-t14 : (t : ℕ) → feed-outcomes-lts.Need-mul-t14 (
+  outcomes-reads.Asked,
+  outcomes-reads.Learnt,
+  put-outcome-reads.Asked,
+  put-outcome-reads.Learnt,
+  feed-below t,
+  feed.Post,
+  is-large-reads.Asked,
+  is-large-reads.Learnt,
+) (feed-outcomes-at t) feed-outcomes.Post feed-outcomes-Inv-loop feed-outcomes-μ-loop
+feed-outcomes-mul-t14 t c = search needs
 
 feed-outcomes-outcomes-requires : (t : ℕ) → feed-outcomes-lts.Need-outcomes-requires (
   outcomes-reads.Asked,
@@ -1579,18 +1592,6 @@ feed-outcomes-loop-holds : (t : ℕ) → feed-outcomes-lts.Need-loop-holds (
 ) (feed-outcomes-at t) feed-outcomes.Post feed-outcomes-Inv-loop feed-outcomes-μ-loop
 feed-outcomes-loop-holds t c =
     each.outcomes-begin (c .before .before .before .before .before .pre .1)
-
-feed-outcomes-mul-put-outcome : (t : ℕ) → feed-outcomes-lts.Need-mul-put-outcome (
-  outcomes-reads.Asked,
-  outcomes-reads.Learnt,
-  put-outcome-reads.Asked,
-  put-outcome-reads.Learnt,
-  feed-below t,
-  feed.Post,
-  is-large-reads.Asked,
-  is-large-reads.Learnt,
-) (feed-outcomes-at t) feed-outcomes.Post feed-outcomes-Inv-loop feed-outcomes-μ-loop
-feed-outcomes-mul-put-outcome t c = search needs
 
 feed-outcomes-put-outcome-requires : (t : ℕ) → feed-outcomes-lts.Need-put-outcome-requires (
   outcomes-reads.Asked,
@@ -2074,7 +2075,7 @@ feed-unwound-steps-requires : (t : ℕ) → feed-unwound-lts.Need-steps-requires
   feed-outcomes.Post,
 ) (feed-unwound-at t) feed-unwound.Post
 feed-unwound-steps-requires t c κs =
-    along-order (each.path-along (c .before .before .before .pre .1))
+    along-room (each.path-along (c .before .before .before .pre .1))
 
 feed-unwound-feed-elements-requires : (t : ℕ) → feed-unwound-lts.Need-feed-elements-requires (
   steps-reads.Asked,
@@ -2215,9 +2216,9 @@ pub +feed+feed-each+feed-elements+feed-looked+feed-matched+feed-outcomes+feed-pr
     feed-each.Post
     feed-each-Inv-loop
     feed-each-μ-loop
+    (feed-each-mul-t18 t)
     (feed-each-loop-holds t)
     (feed-each-field-end-requires t)
-    (feed-each-mul-put-element t)
     (feed-each-put-element-requires t)
     (feed-each-enum-known-out t)
     (feed-each-enum-told t)
@@ -2240,8 +2241,8 @@ pub +feed+feed-each+feed-elements+feed-looked+feed-matched+feed-outcomes+feed-pr
       step-at-reads.Learnt,
       field-end-reads.Asked,
       field-end-reads.Learnt,
-      find-entry-reads.Asked,
-      find-entry-reads.Learnt,
+      find-reads.Asked,
+      find-reads.Learnt,
       feed-each-below t,
       feed-each.Post,
       feed-below t,
@@ -2251,7 +2252,7 @@ pub +feed+feed-each+feed-elements+feed-looked+feed-matched+feed-outcomes+feed-pr
     feed-elements.Post
     (feed-elements-step-at-requires t)
     (feed-elements-field-end-requires t)
-    (feed-elements-find-entry-requires t)
+    (feed-elements-find-requires t)
     (feed-elements-enum-known-found t)
     (feed-elements-enum-told t)
     (feed-elements-same-length t)
@@ -2301,9 +2302,9 @@ pub +feed+feed-each+feed-elements+feed-looked+feed-matched+feed-outcomes+feed-pr
     feed-outcomes.Post
     feed-outcomes-Inv-loop
     feed-outcomes-μ-loop
+    (feed-outcomes-mul-t14 t)
     (feed-outcomes-outcomes-requires t)
     (feed-outcomes-loop-holds t)
-    (feed-outcomes-mul-put-outcome t)
     (feed-outcomes-put-outcome-requires t)
     (feed-outcomes-enum-known-out t)
     (feed-outcomes-enum-told t)

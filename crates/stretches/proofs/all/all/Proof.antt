@@ -16,14 +16,14 @@ first-requires : tie.Need-first-requires
 first-requires c κs =
     all-first (c .before .stages-of .ensures)
     (c .before .before .before .before .before .before .pre .0)
-    (c .before .before .before .before .before .before .args .w .now)
+    (c .before .before .before .before .before .before .args .work .now)
     (c .before .before .before .before .before .before .pre .1)
 
 later-requires : tie.Need-later-requires
 later-requires c κs =
     all-later (c .before .before .before .before .before .stages-of .ensures)
     (c .before .before .before .before .before .before .before .before .before .before .pre .0)
-    (c .before .before .before .before .before .before .before .before .before .before .args .w .now)
+    (c .before .before .before .before .before .before .before .before .before .before .args .work .now)
     (c .before .before .before .before .before .before .before .before .before .before .pre .1)
     (c .before .before .before .first .kept .1 .0) (c .before .before .before .first .ensures)
 
@@ -34,7 +34,7 @@ returns : tie.Need-returns
 returns c =
     all-runs (c .before .before .before .before .before .before .before .before .stages-of .ensures)
     (c .before .before .before .before .before .before .before .before .before .before .before .before .before .pre .0)
-    (c .before .before .before .before .before .before .before .before .before .before .before .before .before .args .w .now)
+    (c .before .before .before .before .before .before .before .before .before .before .before .before .before .args .work .now)
     (c .before .before .before .before .before .before .before .before .before .before .before .before .before .pre .1)
     (c .before .before .before .before .before .before .first .kept .1 .0)
     (c .before .before .before .before .before .before .first .ensures)

@@ -24,10 +24,11 @@ use Rattle.stream.proofs.collector.is_large.Reads as is-large-reads
 use Rattle.stream.proofs.feed.feed.Reads as feed-reads
 
 abbrev Inv-loop : tie.InvT-loop
-Inv-loop input w₀ q p e j s₀ i₀ w s i = FirstGoing input w₀ q p e j w s i
+Inv-loop input work₀ query stages joined room held₀ at₀ work held at =
+    FirstGoing input work₀ query stages joined work held at
 
 abbrev μ-loop : tie.MeasureT-loop
-μ-loop input w₀ q p e j s₀ i₀ w s i = length input - i
+μ-loop input work₀ query stages joined room held₀ at₀ work held at = length input - at
 
 loop-holds : tie.Need-loop-holds Inv-loop μ-loop
 loop-holds c = first-begin (c .before .before .before .before .pre)

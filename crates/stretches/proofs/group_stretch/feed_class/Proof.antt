@@ -7,24 +7,38 @@ use Rattle.stretches.proofs.group_stretch.feed_class.Statement.{stateme
 use Rattle.stretches.proofs.group_stretch.feed_class.Tie as tie
 use Rattle.stretches.proofs.group_stretch.feed_class.Reads as reads
 use Rattle.stretches.proofs.group_stretch.feed_class.Lts as lts
+use Rattle.areas.proofs.area.field_end.Reads as field-end-reads
 use Rattle.group.proofs.class.class_tree.Reads as class-tree-reads
 use Rattle.group.proofs.first.begins.Reads as begins-reads
 use Rattle.stream.proofs.feed.feed.Reads as feed-reads
 
+field-end-requires : tie.Need-field-end-requires
+field-end-requires c κs =
+    omega (
+      arith,
+      c .before .before .before .before .pre .rest .value-is .ends,
+      c .before .before .before .before .pre .rest .value-is .inside,
+    )
+
 begins-requires : tie.Need-begins-requires
-begins-requires c κs = law.class-asked (c .before .before .before .before .pre)
+begins-requires c κs =
+    law.class-asked (law.from-end ((c .before .before .field-end .ensures))
+    (c .before .before .before .before .before .before .before .pre))
 
 same-length : tie.Need-same-length
 same-length c = search needs
 
 returns : tie.Need-returns
 returns c =
-    law.class-other (c .before .before .before .before .before .before .pre)
-    (c .before .begins .ensures) (not-true _ (c .if1 .taken))
+    law.fed-to-end ((c .before .before .before .before .field-end .ensures))
+    (law.class-other (law.from-end ((c .before .before .before .before .field-end .ensures))
+    (c .before .before .before .before .before .before .before .before .before .pre))
+    (c .before .begins .ensures) (not-true _ (c .if1 .taken)))
 
 class-tree-requires : tie.Need-class-tree-requires
 class-tree-requires c κs =
-    law.class-built (c .before .before .before .before .before .before .before .pre)
+    law.class-built (law.from-end ((c .before .before .before .before .before .field-end .ensures))
+    (c .before .before .before .before .before .before .before .before .before .before .pre))
 
 enum-known-out : tie.Need-enum-known-out
 enum-known-out c = search needs
@@ -37,12 +51,15 @@ same-length-2 c = search needs
 
 returns-2 : tie.Need-returns-2
 returns-2 c =
-    law.class-large (c .before .before .before .before .before .before .before .before .before .before .before .before .pre)
+    law.fed-to-end ((c .before .before .before .before .before .before .before .before .before .before .field-end .ensures))
+    (law.class-large (law.from-end
+    ((c .before .before .before .before .before .before .before .before .before .before .field-end .ensures))
+    (c .before .before .before .before .before .before .before .before .before .before .before .before .before .before .before .pre))
     (c .before .before .before .before .class-tree .kept .0)
     (c .before .before .before .before .class-tree .ensures)
     (c .before .before .before .before .before .before .before .begins .ensures)
     (not-false _ (c .before .before .before .before .before .before .if1 .left))
-    (c .enum-told .given .1)
+    (c .enum-told .given .1))
 
 sub-feed : tie.Need-sub-feed
 sub-feed c = search needs
@@ -58,7 +75,8 @@ sub-feed-2 c =
     omega (
       arith,
       law.class-places
-          (c .before .before .before .before .before .before .before .before .before .before .before .before .before .before .pre)
+          (law.from-end ((c .before .before .before .before .before .before .before .before .before .before .before .before .field-end .ensures))
+          (c .before .before .before .before .before .before .before .before .before .before .before .before .before .before .before .before .before .pre))
           (c .before .before .before .before .before .before .class-tree .kept .0)
           (c .before .before .before .before .before .before .class-tree .ensures)
           (c .before .before .out .given .1),
@@ -66,7 +84,9 @@ sub-feed-2 c =
 
 feed-requires : tie.Need-feed-requires
 feed-requires c κs =
-    law.class-feed (c .before .before .before .before .before .before .before .before .before .before .before .before .before .before .pre)
+    law.class-feed (law.from-end
+    ((c .before .before .before .before .before .before .before .before .before .before .before .before .field-end .ensures))
+    (c .before .before .before .before .before .before .before .before .before .before .before .before .before .before .before .before .before .pre))
     (c .before .before .before .before .before .before .class-tree .kept .0)
     (c .before .before .before .before .before .before .class-tree .ensures)
     (c .before .before .out .given .1)
@@ -76,18 +96,22 @@ same-length-3 c = search needs
 
 returns-3 : tie.Need-returns-3
 returns-3 c =
-    law.class-fed (c .before .before .before .before .before .before .before .before .before .before .before .before .before .before .before .before .before .pre)
+    law.fed-to-end ((c .before .before .before .before .before .before .before .before .before .before .before .before .before .before .before .field-end .ensures))
+    (law.class-fed (law.from-end
+    ((c .before .before .before .before .before .before .before .before .before .before .before .before .before .before .before .field-end .ensures))
+    (c .before .before .before .before .before .before .before .before .before .before .before .before .before .before .before .before .before .before .before .before .pre))
     (c .before .before .before .before .before .before .before .before .before .class-tree .kept .0)
     (c .before .before .before .before .before .before .before .before .before .class-tree .ensures)
     (c .before .before .before .before .before .out .given .1) (c .before .before .feed .kept .0)
     (c .before .before .feed .ensures)
     (c .before .before .before .before .before .before .before .before .before .before .before .before .begins .ensures)
-    (not-false _ (c .before .before .before .before .before .before .before .before .before .before .before .if1 .left))
+    (not-false _ (c .before .before .before .before .before .before .before .before .before .before .before .if1 .left)))
 
 pub feed-class-spec : {M : Type 1} → statement M
 feed-class-spec =
     tie.close
     (tie.spec
+    field-end-requires
     begins-requires
     same-length
     returns

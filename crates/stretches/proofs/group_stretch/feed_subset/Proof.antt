@@ -13,30 +13,32 @@ use Rattle.stream.proofs.collector.is_large.Reads as is-large-reads
 use Rattle.stretches.proofs.group_stretch.feed_class.Reads as feed-class-reads
 
 abbrev Inv-loop : tie.InvT-loop
-Inv-loop w₀ n q f u g h k m e j collector₀ x₀ w collector x =
-    law.ScanGoing w₀ n q f u g h k m e j collector₀ w collector x
+Inv-loop work₀ len query at subset joined held₀ from₀ work held from =
+    law.ScanGoing work₀ len query at subset joined held₀ work held from
 
 abbrev μ-loop : tie.MeasureT-loop
-μ-loop w₀ n q f u g h k m e j collector₀ x₀ w collector x = n - x
+μ-loop work₀ len query at subset joined held₀ from₀ work held from = len - from
 
 loop-holds : tie.Need-loop-holds Inv-loop μ-loop
-loop-holds c = law.scan-begin (c .before .before .before .pre) (c .before .before .before .args .k)
+loop-holds c =
+    law.scan-begin (c .before .before .before .pre) (c .before .before .before .args .subset)
 
 field-end-requires : tie.Need-field-end-requires Inv-loop μ-loop
 field-end-requires c κs =
     omega (
       arith,
       law.scan-places (c .before .before .before .before .before .before .pre)
-          (c .before .before .before .before .before .before .args .k) (c .before .before .loop .inv)
-          (c .before .loop-test .taken) refl,
+          (c .before .before .before .before .before .before .args .subset)
+          (c .before .before .loop .inv) (c .before .loop-test .taken) refl,
     )
 
 feed-class-requires : tie.Need-feed-class-requires Inv-loop μ-loop
 feed-class-requires c κs =
-    law.scan-one (c .before .before .before .before .before .before .before .before .pre)
-    (c .before .before .before .before .before .before .before .before .args .k)
+    law.to-end (c .before .field-end .ensures)
+    (law.scan-one (c .before .before .before .before .before .before .before .before .pre)
+    (c .before .before .before .before .before .before .before .before .args .subset)
     (c .before .before .before .before .loop .inv) (c .before .before .before .loop-test .taken)
-    (c .before .field-end .ensures)
+    (c .before .field-end .ensures))
 
 is-large-requires : tie.Need-is-large-requires Inv-loop μ-loop
 is-large-requires c κs = search needs
@@ -47,12 +49,13 @@ same-length c = search needs
 returns : tie.Need-returns Inv-loop μ-loop
 returns c =
     law.scan-stop (c .before .before .before .before .before .before .before .before .before .before .before .before .before .pre)
-    (c .before .before .before .before .before .before .before .before .before .before .before .before .before .args .k)
+    (c .before .before .before .before .before .before .before .before .before .before .before .before .before .args .subset)
     (c .before .before .before .before .before .before .before .before .before .loop .inv)
     (c .before .before .before .before .before .before .before .before .loop-test .taken)
     (c .before .before .before .before .before .before .field-end .ensures)
     (c .before .before .before .before .feed-class .kept .0)
-    (c .before .before .before .before .feed-class .ensures)
+    (law.fed-from-end (c .before .before .before .before .before .before .field-end .ensures)
+    (c .before .before .before .before .feed-class .ensures))
     (sym (c .before .is-large .ensures) ∙ c .if1 .taken)
 
 loop-less : tie.Need-loop-less Inv-loop μ-loop
@@ -61,7 +64,7 @@ loop-less c =
       arith,
       law.scan-places
           (c .before .before .before .before .before .before .before .before .before .before .before .before .before .pre)
-          (c .before .before .before .before .before .before .before .before .before .before .before .before .before .args .k)
+          (c .before .before .before .before .before .before .before .before .before .before .before .before .before .args .subset)
           (c .before .before .before .before .before .before .before .before .before .loop .inv)
           (c .before .before .before .before .before .before .before .before .loop-test .taken)
           (c .before .before .before .before .before .before .field-end .ensures),
@@ -70,12 +73,13 @@ loop-less c =
 loop-again : tie.Need-loop-again Inv-loop μ-loop
 loop-again c =
     law.scan-again (c .before .before .before .before .before .before .before .before .before .before .before .before .before .pre)
-    (c .before .before .before .before .before .before .before .before .before .before .before .before .before .args .k)
+    (c .before .before .before .before .before .before .before .before .before .before .before .before .before .args .subset)
     (c .before .before .before .before .before .before .before .before .before .loop .inv)
     (c .before .before .before .before .before .before .before .before .loop-test .taken)
     (c .before .before .before .before .before .before .field-end .ensures)
     (c .before .before .before .before .feed-class .kept .0)
-    (c .before .before .before .before .feed-class .ensures)
+    (law.fed-from-end (c .before .before .before .before .before .before .field-end .ensures)
+    (c .before .before .before .before .feed-class .ensures))
     (sym (c .before .is-large .ensures) ∙ c .if1 .left)
 
 same-length-2 : tie.Need-same-length-2 Inv-loop μ-loop
@@ -84,7 +88,8 @@ same-length-2 c = search needs
 returns-2 : tie.Need-returns-2 Inv-loop μ-loop
 returns-2 c =
     law.scan-end (c .before .before .before .before .before .pre)
-    (c .before .before .before .before .before .args .k) (c .before .loop .inv) (c .loop-test .left)
+    (c .before .before .before .before .before .args .subset) (c .before .loop .inv)
+    (c .loop-test .left)
 
 pub feed-subset-spec : {M : Type 1} → statement M
 feed-subset-spec =

@@ -13,21 +13,21 @@ use Rattle.stretches.proofs.group_stretch.feed_subset.Reads as feed-sub
 use Rattle.stretches.proofs.group_stretch.subsets.Reads as subsets-reads
 
 abbrev Inv-loop : tie.InvT-loop
-Inv-loop w₀ n q f u g h m e j total collector₀ k₀ w collector k =
-    law.GroupGoing w₀ n q f u g h m e j w collector total k
+Inv-loop work₀ len query at joined total held₀ k₀ work held k =
+    law.GroupGoing work₀ len query at joined work held total k
 
 abbrev μ-loop : tie.MeasureT-loop
-μ-loop w₀ n q f u g h m e j total collector₀ k₀ w collector k = total - k
+μ-loop work₀ len query at joined total held₀ k₀ work held k = total - k
 
 subsets-requires : tie.Need-subsets-requires Inv-loop μ-loop
-subsets-requires c κs = law.group-pairs (c .before .before .before .pre)
+subsets-requires c κs = law.group-pairs (c .before .before .before .before .pre)
 
 loop-holds : tie.Need-loop-holds Inv-loop μ-loop
-loop-holds c = law.group-begin (c .before .before .before .before .pre) (c .subsets .result)
+loop-holds c = law.group-begin (c .before .before .before .before .before .pre) (c .subsets .result)
 
 feed-subset-requires : tie.Need-feed-subset-requires Inv-loop μ-loop
 feed-subset-requires c κs =
-    law.group-subset (c .before .before .before .before .before .before .before .pre)
+    law.group-subset (c .before .before .before .before .before .before .before .before .pre)
     (c .before .before .before .subsets .result) (c .before .before .loop .inv)
 
 is-large-requires : tie.Need-is-large-requires Inv-loop μ-loop
@@ -38,7 +38,7 @@ same-length c = search needs
 
 returns : tie.Need-returns Inv-loop μ-loop
 returns c =
-    law.group-stop (c .before .before .before .before .before .before .before .before .before .before .before .before .pre)
+    law.group-stop (c .before .before .before .before .before .before .before .before .before .before .before .before .before .pre)
     (c .before .before .before .before .before .before .before .before .subsets .result)
     (c .before .before .before .before .before .before .before .loop .inv)
     (c .before .before .before .before .before .before .loop-test .taken)
@@ -65,7 +65,7 @@ loop-less c =
 
 loop-again : tie.Need-loop-again Inv-loop μ-loop
 loop-again c =
-    law.group-again (c .before .before .before .before .before .before .before .before .before .before .before .before .pre)
+    law.group-again (c .before .before .before .before .before .before .before .before .before .before .before .before .before .pre)
     (c .before .before .before .before .before .before .before .before .subsets .result)
     (c .before .before .before .before .before .before .before .loop .inv)
     (c .before .before .before .before .before .before .loop-test .taken)
@@ -78,7 +78,7 @@ same-length-2 c = search needs
 
 returns-2 : tie.Need-returns-2 Inv-loop μ-loop
 returns-2 c =
-    law.group-end (c .before .before .before .before .before .before .pre)
+    law.group-end (c .before .before .before .before .before .before .before .pre)
     (c .before .before .subsets .result) (c .before .loop .inv)
     (c .before .before .subsets .ensures) (c .loop-test .left)
 

@@ -3,6 +3,7 @@ use native.Mathlib.Omega.{arith}
 use mathlib.Core.Path.{refl}
 use Prim.Native.Nat.{ℕ, _*_, _-_}
 use Rattle.spec_queries.specs.Bytes.{pairF}
+use Rattle.areas.specs.Area.{span}
 use Rattle.queries.specs.Places.{pairsBytes, HoldsOk}
 use Rattle.queries.specs.PartLaws.{holds-of, list-places}
 use Rattle.group.specs.KeyLaws.{WeightFits, weighed-first, weighed-small, weighed-next}
@@ -15,18 +16,18 @@ use Rattle.stretches.proofs.group_stretch.subsets.Lts as lts
 use Rattle.areas.proofs.area.field_end.Reads as field-end-reads
 
 abbrev Inv-loop : tie.InvT-loop
-Inv-loop q g h n₀ at₀ n at =
-    HoldsOk (WeightFits n) pairsBytes q at h ×
-    ((c : ℕ) → SubsetsIs q at h c → SubsetsIs q g h (n * c))
+Inv-loop query end n₀ at₀ n at =
+    HoldsOk (WeightFits n) pairsBytes query at end ×
+    ((c : ℕ) → SubsetsIs query (span at end) c → SubsetsIs query (span at₀ end) (n * c))
 
 abbrev μ-loop : tie.MeasureT-loop
-μ-loop q g h n₀ at₀ n at = h - at
+μ-loop query end n₀ at₀ n at = end - at
 
 loop-holds : tie.Need-loop-holds Inv-loop μ-loop
 loop-holds c = (
   weighed-first (c .before .pre),
-  subsets-start (c .before .args .q .now) (c .before .args .g)
-      (c .before .args .h),
+  subsets-start (c .before .args .query .now)
+      (c .before .args .keys .from) (c .before .args .keys .to),
 )
 
 add-n : tie.Need-add-n Inv-loop μ-loop
@@ -48,17 +49,18 @@ loop-again : tie.Need-loop-again Inv-loop μ-loop
 loop-again c = (
   weighed-next (c .before .loop-test .taken) (c .field-end .ensures)
       (c .before .before .loop .inv .0),
-  subsets-on (c .before .before .before .before .args .q .now)
-      (c .before .before .before .before .args .g) (c .before .before .loop .at)
-      (c .before .before .before .before .args .h) (c .before .before .loop .n)
+  subsets-on (c .before .before .before .before .args .query .now)
+      (c .before .before .before .before .args .keys .from) (c .before .before .loop .at)
+      (c .before .before .before .before .args .keys .to) (c .before .before .loop .n)
       (c .before .before .loop .inv .1) (c .before .loop-test .taken) (c .field-end .ensures),
 )
 
 returns : tie.Need-returns Inv-loop μ-loop
 returns c =
-    subsets-end (c .before .before .before .args .q .now) (c .before .before .before .args .g)
-    (c .before .loop .at) (c .before .before .before .args .h) (c .before .loop .n)
-    (c .before .loop .inv .1) (c .loop-test .left)
+    subsets-end (c .before .before .before .args .query .now)
+    (c .before .before .before .args .keys .from) (c .before .loop .at)
+    (c .before .before .before .args .keys .to) (c .before .loop .n) (c .before .loop .inv .1)
+    (c .loop-test .left)
 
 pub subsets-spec : {M : Type 1} → statement M
 subsets-spec =

@@ -25,7 +25,7 @@ use Rattle.stretches.proofs.later.+later.{statement}
 use Rattle.stretches.proofs.later.+later.Tie.{close}
 
 abbrev μ-later : Measures 2 later-kinds.ps ℕ
-μ-later κs a = a .1 .1 .1 .0 - a .1 .1 .0
+μ-later κs a = a .1 .1 .0 .to - a .1 .1 .0 .from
 
 abbrev later-at : ℕ → In 2 later-kinds.ps
 later-at t = and 2 later-kinds.ps (is 2 later-kinds.ps μ-later t) later.Pre
@@ -98,13 +98,13 @@ later-returns : (t : ℕ) → later-lts.Need-returns (
 ) (later-at t) later.Post
 later-returns t c =
     later-last (c .before .before .before .next-group .ensures)
-    (c .before .before .before .before .before .before .before .args .w .now)
-    (c .before .before .before .before .before .before .before .args .s) (c .last .result)
+    (c .before .before .before .before .before .before .before .args .work .now)
+    (c .before .before .before .before .before .before .before .args .collector) (c .last .result)
     (c .before .enum-told .given .1)
     (omega (arith, c .before .before .before .before .before .before .before .pre .1 .size))
     (c .last .ensures)
 
-later-enum-known-s : (t : ℕ) → later-lts.Need-enum-known-s (
+later-enum-known-collector : (t : ℕ) → later-lts.Need-enum-known-collector (
   next-group-reads.Asked,
   next-group-reads.Learnt,
   last-reads.Asked,
@@ -114,7 +114,7 @@ later-enum-known-s : (t : ℕ) → later-lts.Need-enum-known-s (
   later-below t,
   later.Post,
 ) (later-at t) later.Post
-later-enum-known-s t c = search needs
+later-enum-known-collector t c = search needs
 
 later-next-stretch-requires : (t : ℕ) → later-lts.Need-next-stretch-requires (
   next-group-reads.Asked,
@@ -128,7 +128,8 @@ later-next-stretch-requires : (t : ℕ) → later-lts.Need-next-stretch-requires
 ) (later-at t) later.Post
 later-next-stretch-requires t c κs =
     later-held (c .before .before .before .before .before .before .before .next-group .ensures)
-    (c .before .before .before .before .before .next .given .1) (c .before .before .s .given .1)
+    (c .before .before .before .before .before .next .given .1)
+    (c .before .before .collector .given .1)
     (c .before .before .before .before .before .before .before .before .before .before .before .pre .1)
 
 later-later-requires : (t : ℕ) → later-lts.Need-later-requires (
@@ -153,7 +154,7 @@ later-later-requires t c κs = (
   ),
   later-ready (c .before .before .before .before .before .before .before .before .before .before .before .next-group .ensures)
       (c .before .before .before .before .before .before .before .before .before .next .given .1)
-      (c .before .before .before .before .before .before .s .given .1)
+      (c .before .before .before .before .before .before .collector .given .1)
       (c .before .before .before .before .before .before .before .before .before .before .before .before .before .before .before .pre .1)
       (c .before .before .before .next-stretch .kept .0)
       (c .before .before .before .next-stretch .ensures),
@@ -210,7 +211,7 @@ later-returns-2 : (t : ℕ) → later-lts.Need-returns-2 (
 later-returns-2 t c =
     later-next (c .before .before .before .before .before .before .before .before .before .before .before .before .before .before .next-group .ensures)
     (c .before .before .before .before .before .before .before .before .before .before .before .before .next .given .1)
-    (c .before .before .before .before .before .before .before .before .before .s .given .1)
+    (c .before .before .before .before .before .before .before .before .before .collector .given .1)
     (c .before .before .before .before .before .before .before .before .before .before .before .before .before .before .before .before .before .before .pre .1)
     (c .before .before .before .before .before .before .next-stretch .kept .0)
     (c .before .before .before .before .before .before .next-stretch .ensures)
@@ -229,7 +230,7 @@ later-returns-3 : (t : ℕ) → later-lts.Need-returns-3 (
 later-returns-3 t c =
     later-long (c .before .before .before .before .before .next-group .ensures)
     (c .before .before .before .next .given .1)
-    (c .before .before .before .before .before .before .before .before .before .args .w .now)
+    (c .before .before .before .before .before .before .before .before .before .args .work .now)
     (c .enum-told2 .given .1)
 
 later-returns-4 : (t : ℕ) → later-lts.Need-returns-4 (
@@ -244,7 +245,7 @@ later-returns-4 : (t : ℕ) → later-lts.Need-returns-4 (
 ) (later-at t) later.Post
 later-returns-4 t c =
     later-large (c .before .before .before .before .before .next-group .ensures)
-    (c .before .before .before .before .before .before .before .before .before .args .w .now)
+    (c .before .before .before .before .before .before .before .before .before .args .work .now)
     (c .enum-told3 .given .1)
 
 pub +later-spec : {M : Type 1} → statement M
@@ -265,7 +266,7 @@ pub +later-spec : {M : Type 1} → statement M
     (later-enum-told t)
     (later-last-requires t)
     (later-returns t)
-    (later-enum-known-s t)
+    (later-enum-known-collector t)
     (later-next-stretch-requires t)
     (later-later-requires t)
     (later-enum-told-2 t)

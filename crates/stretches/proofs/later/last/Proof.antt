@@ -6,8 +6,8 @@ use Rattle.stretches.proofs.later.last.Tie as tie
 use Rattle.stretches.proofs.later.last.Reads as reads
 use Rattle.stretches.proofs.later.last.Lts as lts
 
-enum-known-s : tie.Need-enum-known-s
-enum-known-s c = search needs
+enum-known-collector : tie.Need-enum-known-collector
+enum-known-collector c = search needs
 
 enum-told : tie.Need-enum-told
 enum-told c = search needs
@@ -16,7 +16,7 @@ enum-told-2 : tie.Need-enum-told-2
 enum-told-2 c = search needs
 
 returns : tie.Need-returns
-returns c = last-held (c .before .s .given .1)
+returns c = last-held (c .before .collector .given .1)
 
 returns-2 : tie.Need-returns-2
 returns-2 c = last-full (c .enum-told .given .1)
@@ -25,4 +25,5 @@ returns-3 : tie.Need-returns-3
 returns-3 c = last-large (c .enum-told2 .given .1)
 
 pub last-spec : {M : Type 1} → statement M
-last-spec = tie.close (tie.spec enum-known-s enum-told enum-told-2 returns returns-2 returns-3)
+last-spec =
+    tie.close (tie.spec enum-known-collector enum-told enum-told-2 returns returns-2 returns-3)

@@ -13,8 +13,8 @@ use Rattle.stretches.proofs.group_stretch.regroup.Reads as regroup-read
 sub-from : tie.Need-sub-from
 sub-from c = search needs
 
-add-move-down : tie.Need-add-move-down
-add-move-down c = let b = held-bounds (c .before .before .before .before .pre) in omega (arith, b)
+add-to : tie.Need-add-to
+add-to c = let b = held-bounds (c .before .before .before .pre) in omega (arith, b)
 
 move-down-requires : tie.Need-move-down-requires
 move-down-requires c κs =
@@ -40,5 +40,4 @@ returns c =
 
 pub next-stretch-spec : {M : Type 1} → statement M
 next-stretch-spec =
-    tie.close
-    (tie.spec sub-from add-move-down move-down-requires regroup-requires same-length returns)
+    tie.close (tie.spec sub-from add-to move-down-requires regroup-requires same-length returns)

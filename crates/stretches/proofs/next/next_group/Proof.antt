@@ -3,6 +3,7 @@ use borrow.Author.Needs.{needs}
 use mathlib.Core.Path.{refl}
 use Prim.Native.Nat.{_-_}
 use native.Mathlib.Omega.{arith}
+use Rattle.areas.specs.Area.{span}
 use Rattle.format.specs.Stand.{Holds}
 use Rattle.queries.specs.Places.{stagesBytes}
 use Rattle.stretches.specs.declared.next.Next.{Next}
@@ -24,11 +25,12 @@ use Rattle.queries.proofs.stage.stage_at.Reads as stage-at-reads
 use Rattle.stretches.proofs.next.group_of.Reads as group-of-reads
 
 abbrev Inv-loop : tie.InvT-loop
-Inv-loop q p e at₀ at =
-    Holds stagesBytes q at e × ((r : Next) → NextPost q at e r → NextPost q p e r)
+Inv-loop query to at₀ at =
+    Holds stagesBytes query at to ×
+    ((r : Next) → NextPost query (span at to) r → NextPost query (span at₀ to) r)
 
 abbrev μ-loop : tie.MeasureT-loop
-μ-loop q p e at₀ at = e - at
+μ-loop query to at₀ at = to - at
 
 loop-holds : tie.Need-loop-holds Inv-loop μ-loop
 loop-holds c = (c .before .pre, λ r k. k)

@@ -4,12 +4,14 @@ use borrow.Author.Needs.{needs}
 use mathlib.Core.Path.{refl, sym, _∙_}
 use Prim.Native.Nat.{ℕ, _+_, _*_, _-_, _≤_}
 use native.Mathlib.Nat.{add-assoc, add-zero, zero-add}
-use Rattle.format.specs.Stand.{treesBytes, Holds}
+use Rattle.format.specs.Stand.{treesBytes}
 use Rattle.format.specs.StandLaws.{tree-places, trees-places, holds-labels, holds-first, holds-rest}
 use Rattle.format.specs.LabelLaws.{holds-found}
-use Rattle.queries.specs.Steps.{stepCount}
+use Rattle.areas.specs.Area.{span}
+use Rattle.queries.specs.Places.{HoldsAt}
+use Rattle.queries.specs.StepLaws.{steps-fewer}
 use Rattle.unwind.specs.Outcomes.{CountsEach}
-use Rattle.place.specs.WriterLaws.{along-order, along-inside, step-before, steps-less}
+use Rattle.place.specs.WriterLaws.{along-room, along-inside, step-before}
 use Rattle.unwind.specs.OutcomeLaws.{
   count-end,
   count-missing,
@@ -36,10 +38,10 @@ use Rattle.unwind.proofs.unwind.+outcomes+outcomes_each.{statement}
 use Rattle.unwind.proofs.unwind.+outcomes+outcomes_each.Tie.{close}
 
 abbrev μ-outcomes : Measures 2 outcomes-kinds.ps ℕ
-μ-outcomes κs a = 2 * (stepCount (a .1 .0) (a .1 .1 .0) - a .1 .1 .1 .0)
+μ-outcomes κs a = 2 * (a .1 .0 .to - a .1 .1 .0)
 
 abbrev μ-outcomes-each : Measures 2 outcomes-each-kinds.ps ℕ
-μ-outcomes-each κs a = 2 * (stepCount (a .1 .0) (a .1 .1 .0) - a .1 .1 .1 .0) + 1
+μ-outcomes-each κs a = 2 * (a .1 .0 .to - a .1 .1 .0) + 1
 
 abbrev outcomes-at : ℕ → In 2 outcomes-kinds.ps
 outcomes-at t = and 2 outcomes-kinds.ps (is 2 outcomes-kinds.ps μ-outcomes t) outcomes.Pre
@@ -72,7 +74,7 @@ outcomes-steps-requires : (t : ℕ) → outcomes-lts.Need-steps-requires (
   outcomes-each-below t,
   outcomes-each.Post,
 ) (outcomes-at t) outcomes.Post
-outcomes-steps-requires t c κs = along-order (c .before .before .pre .1 .0)
+outcomes-steps-requires t c κs = along-room (c .before .before .pre .1 .0)
 
 outcomes-returns : (t : ℕ) → outcomes-lts.Need-returns (
   steps-reads.Asked,
@@ -103,7 +105,7 @@ outcomes-add-field-end : (t : ℕ) → outcomes-lts.Need-add-field-end (
   outcomes-each.Post,
 ) (outcomes-at t) outcomes.Post
 outcomes-add-field-end t c =
-    omega (arith, tree-places (c .before .before .before .before .pre .1 .2) refl)
+    omega (arith, tree-places (c .before .before .before .before .before .pre .1 .2) refl)
 
 outcomes-field-end-requires : (t : ℕ) → outcomes-lts.Need-field-end-requires (
   steps-reads.Asked,
@@ -118,7 +120,7 @@ outcomes-field-end-requires : (t : ℕ) → outcomes-lts.Need-field-end-requires
   outcomes-each.Post,
 ) (outcomes-at t) outcomes.Post
 outcomes-field-end-requires t c κs =
-    omega (arith, tree-places (c .before .before .before .before .pre .1 .2) refl)
+    omega (arith, tree-places (c .before .before .before .before .before .pre .1 .2) refl)
 
 outcomes-step-at-requires : (t : ℕ) → outcomes-lts.Need-step-at-requires (
   steps-reads.Asked,
@@ -133,10 +135,10 @@ outcomes-step-at-requires : (t : ℕ) → outcomes-lts.Need-step-at-requires (
   outcomes-each.Post,
 ) (outcomes-at t) outcomes.Post
 outcomes-step-at-requires t c κs =
-    along-inside (c .before .before .before .before .before .pre .1 .0)
-    (c .before .before .before .before .before .args .i)
-    (step-before (c .before .before .before .before .before .pre .1 .1)
-    (c .before .before .steps .ensures) (c .before .if1 .left))
+    along-inside (c .before .before .before .before .before .before .pre .1 .0)
+    (c .before .before .before .before .before .before .args .i)
+    (step-before (c .before .before .before .before .before .before .pre .1 .1)
+    (c .before .before .before .steps .ensures) (c .before .before .if1 .left))
 
 outcomes-find-requires : (t : ℕ) → outcomes-lts.Need-find-requires (
   steps-reads.Asked,
@@ -151,7 +153,7 @@ outcomes-find-requires : (t : ℕ) → outcomes-lts.Need-find-requires (
   outcomes-each.Post,
 ) (outcomes-at t) outcomes.Post
 outcomes-find-requires t c κs =
-    holds-labels (c .before .before .before .before .before .before .pre .1 .2)
+    holds-labels (c .before .before .before .before .before .before .before .pre .1 .2)
     (c .before .field-end .ensures)
 
 outcomes-enum-known-found : (t : ℕ) → outcomes-lts.Need-enum-known-found (
@@ -195,10 +197,10 @@ outcomes-returns-2 : (t : ℕ) → outcomes-lts.Need-returns-2 (
   outcomes-each.Post,
 ) (outcomes-at t) outcomes.Post
 outcomes-returns-2 t c =
-    count-missing (c .before .before .before .before .before .before .before .before .before .args .i)
-    (step-before (c .before .before .before .before .before .before .before .before .before .pre .1 .1)
-    (c .before .before .before .before .before .before .steps .ensures)
-    (c .before .before .before .before .before .if1 .left))
+    count-missing (c .before .before .before .before .before .before .before .before .before .before .args .i)
+    (step-before (c .before .before .before .before .before .before .before .before .before .before .pre .1 .1)
+    (c .before .before .before .before .before .before .before .steps .ensures)
+    (c .before .before .before .before .before .before .if1 .left))
     (c .before .before .before .step-at .ensures)
     (c .before .before .before .before .field-end .ensures) (c .before .before .find .ensures)
     (c .enum-told .given .1)
@@ -219,9 +221,11 @@ outcomes-add-outcomes-each t c =
     omega (
       arith,
       (step-before
-          (c .before .before .before .before .before .before .before .before .before .before .pre .1 .1)
-          (c .before .before .before .before .before .before .before .steps .ensures)
-          (c .before .before .before .before .before .before .if1 .left)),
+          (c .before .before .before .before .before .before .before .before .before .before .before .pre .1 .1)
+          (c .before .before .before .before .before .before .before .before .steps .ensures)
+          (c .before .before .before .before .before .before .before .if1 .left)),
+      (steps-fewer (c .before .before .before .before .before .before .before .before .before .before .before .args .query .now)
+          (c .before .before .before .before .before .before .before .before .before .before .before .args .path)),
     )
 
 outcomes-outcomes-each-requires : (t : ℕ) → outcomes-lts.Need-outcomes-each-requires (
@@ -237,23 +241,27 @@ outcomes-outcomes-each-requires : (t : ℕ) → outcomes-lts.Need-outcomes-each-
   outcomes-each.Post,
 ) (outcomes-at t) outcomes.Post
 outcomes-outcomes-each-requires t c κs = (
-  steps-less (step-before
-      (c .before .before .before .before .before .before .before .before .before .before .pre .1 .1)
-      (c .before .before .before .before .before .before .before .steps .ensures)
-      (c .before .before .before .before .before .before .if1 .left))
-      (c .before .before .before .before .before .before .before .before .before .before .pre .0),
+  omega (
+    arith,
+    c .before .before .before .before .before .before .before .before .before .before .before .pre .0,
+    (step-before (c .before .before .before .before .before .before .before .before .before .before .before .pre .1 .1)
+        (c .before .before .before .before .before .before .before .before .steps .ensures)
+        (c .before .before .before .before .before .before .before .if1 .left)),
+    (steps-fewer (c .before .before .before .before .before .before .before .before .before .before .before .args .query .now)
+        (c .before .before .before .before .before .before .before .before .before .before .before .args .path)),
+  ),
   (
-    (c .before .before .before .before .before .before .before .before .before .before .pre .1 .0),
+    (c .before .before .before .before .before .before .before .before .before .before .before .pre .1 .0),
     omega (
       arith,
       (step-before
-          (c .before .before .before .before .before .before .before .before .before .before .pre .1 .1)
-          (c .before .before .before .before .before .before .before .steps .ensures)
-          (c .before .before .before .before .before .before .if1 .left)),
+          (c .before .before .before .before .before .before .before .before .before .before .before .pre .1 .1)
+          (c .before .before .before .before .before .before .before .before .steps .ensures)
+          (c .before .before .before .before .before .before .before .if1 .left)),
     ),
     holds-found
         (c .before .before .before .before .step-at .result)
-        (holds-labels (c .before .before .before .before .before .before .before .before .before .before .pre .1 .2)
+        (holds-labels (c .before .before .before .before .before .before .before .before .before .before .before .pre .1 .2)
         (c .before .before .before .before .before .field-end .ensures))
         (c .before .before .before .find .ensures) (c .before .found .given .1),
   ),
@@ -272,22 +280,23 @@ outcomes-returns-3 : (t : ℕ) → outcomes-lts.Need-returns-3 (
   outcomes-each.Post,
 ) (outcomes-at t) outcomes.Post
 outcomes-returns-3 t c =
-    count-part (c .before .before .before .before .before .before .before .before .before .before .before .args .i)
-    (step-before (c .before .before .before .before .before .before .before .before .before .before .before .pre .1 .1)
-    (c .before .before .before .before .before .before .before .before .steps .ensures)
-    (c .before .before .before .before .before .before .before .if1 .left))
+    count-part (c .before .before .before .before .before .before .before .before .before .before .before .before .args .i)
+    (step-before (c .before .before .before .before .before .before .before .before .before .before .before .before .pre .1 .1)
+    (c .before .before .before .before .before .before .before .before .before .steps .ensures)
+    (c .before .before .before .before .before .before .before .before .if1 .left))
     (c .before .before .before .before .before .step-at .ensures)
     (c .before .before .before .before .before .before .field-end .ensures)
     (c .before .before .before .before .find .ensures) (c .before .before .found .given .1)
     (c .outcomes-each .ensures)
 
 abbrev outcomes-each-Inv-loop : outcomes-each-lts.InvT-loop
-outcomes-each-Inv-loop q p e i w a b n₀ x₀ n x =
-    (n ≤ x) × Holds treesBytes w x b ×
-    ((r : ℕ) → CountsEach q p e i w x b r → CountsEach q p e i w a b (n + r))
+outcomes-each-Inv-loop query path i area end n₀ at₀ n at =
+    (n ≤ at) × HoldsAt treesBytes area (span at end)
+    × ((r : ℕ) → CountsEach query path i area (span at end) r → CountsEach query path i area
+    (span at₀ end) (n + r))
 
 abbrev outcomes-each-μ-loop : outcomes-each-lts.MeasureT-loop
-outcomes-each-μ-loop q p e i w a b n₀ x₀ n x = b - x
+outcomes-each-μ-loop query path i area end n₀ at₀ n at = end - at
 
 outcomes-each-loop-holds : (t : ℕ) → outcomes-each-lts.Need-loop-holds (
   field-end-reads.Asked,

@@ -3,18 +3,18 @@ use native.Mathlib.Omega.{arith}
 use borrow.Author.Needs.{needs}
 use mathlib.Core.Path.{_≡_, refl, _∙_}
 use mathlib.Core.List.{List}
-use Prim.Native.Nat.{ℕ, _+_, _*_, _-_, _≤_}
+use Prim.Native.Nat.{ℕ, _+_, _*_, _-_}
 use lib.ListN.{length}
-use Rattle.queries.specs.Steps.{stepCount}
+use Rattle.areas.specs.Area.{span}
+use Rattle.queries.specs.StepLaws.{steps-fewer}
 use Rattle.unwind.specs.declared.unwind.Nth.{Nth}
 use Rattle.place.specs.Writers.{WriterReady}
-use Rattle.unwind.specs.Outcomes.{soundsBytes, PutsNthEach}
+use Rattle.unwind.specs.Outcomes.{soundsBytes, RoomFor, PutsNthEach}
 use Rattle.place.specs.WriterLaws.{
-  along-order,
+  along-room,
   along-inside,
   along-small,
   step-before,
-  steps-less,
   ready-places,
   ready-labels,
 }
@@ -45,19 +45,19 @@ use Rattle.unwind.proofs.unwind.put_nth_each.Reads as put-nth-each
 use Rattle.unwind.proofs.unwind.put_nth_each.Kinds as put-nth-each-kinds
 use Rattle.unwind.proofs.unwind.+put_nth+put_nth_each.Lts-put_nth_each as put-nth-each-lts
 use Rattle.areas.proofs.area.field_end.Reads as field-end-reads
+use Rattle.format.proofs.labels.find.Reads as find-reads
 use Rattle.queries.proofs.path.step_at.Reads as step-at-reads
 use Rattle.queries.proofs.path.steps.Reads as steps-reads
-use Rattle.unwind.proofs.unwind.find_entry.Reads as find-entry-reads
 use Rattle.unwind.proofs.unwind.put_whole.Reads as put-whole-reads
 use Rattle.unwind.proofs.unwind.surround.Reads as surround-reads
 use Rattle.unwind.proofs.unwind.+put_nth+put_nth_each.{statement}
 use Rattle.unwind.proofs.unwind.+put_nth+put_nth_each.Tie.{close}
 
 abbrev μ-put-nth : Measures 2 put-nth-kinds.ps ℕ
-μ-put-nth κs a = 2 * (stepCount (a .1 .1 .0) (a .1 .1 .1 .0) - a .1 .1 .1 .1 .0)
+μ-put-nth κs a = 2 * (a .1 .1 .0 .to - a .1 .1 .1 .0)
 
 abbrev μ-put-nth-each : Measures 2 put-nth-each-kinds.ps ℕ
-μ-put-nth-each κs a = 2 * (stepCount (a .1 .1 .0) (a .1 .1 .1 .0) - a .1 .1 .1 .1 .0) + 1
+μ-put-nth-each κs a = 2 * (a .1 .1 .0 .to - a .1 .1 .1 .0) + 1
 
 abbrev put-nth-at : ℕ → In 2 put-nth-kinds.ps
 put-nth-at t = and 2 put-nth-kinds.ps (is 2 put-nth-kinds.ps μ-put-nth t) put-nth.Pre
@@ -86,14 +86,14 @@ put-nth-steps-requires : (t : ℕ) → put-nth-lts.Need-steps-requires (
   step-at-reads.Learnt,
   field-end-reads.Asked,
   field-end-reads.Learnt,
-  find-entry-reads.Asked,
-  find-entry-reads.Learnt,
+  find-reads.Asked,
+  find-reads.Learnt,
   put-nth-each-below t,
   put-nth-each.Post,
   surround-reads.Asked,
   surround-reads.Learnt,
 ) (put-nth-at t) put-nth.Post
-put-nth-steps-requires t c κs = along-order ((c .before .before .pre .1 .0) .along)
+put-nth-steps-requires t c κs = along-room ((c .before .before .pre .1 .0) .along)
 
 put-nth-put-whole-requires : (t : ℕ) → put-nth-lts.Need-put-whole-requires (
   steps-reads.Asked,
@@ -104,8 +104,8 @@ put-nth-put-whole-requires : (t : ℕ) → put-nth-lts.Need-put-whole-requires (
   step-at-reads.Learnt,
   field-end-reads.Asked,
   field-end-reads.Learnt,
-  find-entry-reads.Asked,
-  find-entry-reads.Learnt,
+  find-reads.Asked,
+  find-reads.Learnt,
   put-nth-each-below t,
   put-nth-each.Post,
   surround-reads.Asked,
@@ -129,8 +129,8 @@ put-nth-same-length : (t : ℕ) → put-nth-lts.Need-same-length (
   step-at-reads.Learnt,
   field-end-reads.Asked,
   field-end-reads.Learnt,
-  find-entry-reads.Asked,
-  find-entry-reads.Learnt,
+  find-reads.Asked,
+  find-reads.Learnt,
   put-nth-each-below t,
   put-nth-each.Post,
   surround-reads.Asked,
@@ -147,8 +147,8 @@ put-nth-returns : (t : ℕ) → put-nth-lts.Need-returns (
   step-at-reads.Learnt,
   field-end-reads.Asked,
   field-end-reads.Learnt,
-  find-entry-reads.Asked,
-  find-entry-reads.Learnt,
+  find-reads.Asked,
+  find-reads.Learnt,
   put-nth-each-below t,
   put-nth-each.Post,
   surround-reads.Asked,
@@ -169,8 +169,8 @@ put-nth-step-at-requires : (t : ℕ) → put-nth-lts.Need-step-at-requires (
   step-at-reads.Learnt,
   field-end-reads.Asked,
   field-end-reads.Learnt,
-  find-entry-reads.Asked,
-  find-entry-reads.Learnt,
+  find-reads.Asked,
+  find-reads.Learnt,
   put-nth-each-below t,
   put-nth-each.Post,
   surround-reads.Asked,
@@ -191,8 +191,8 @@ put-nth-add-field-end : (t : ℕ) → put-nth-lts.Need-add-field-end (
   step-at-reads.Learnt,
   field-end-reads.Asked,
   field-end-reads.Learnt,
-  find-entry-reads.Asked,
-  find-entry-reads.Learnt,
+  find-reads.Asked,
+  find-reads.Learnt,
   put-nth-each-below t,
   put-nth-each.Post,
   surround-reads.Asked,
@@ -202,8 +202,8 @@ put-nth-add-field-end t c =
     omega (
       arith,
       ready-places
-          (sound-plain (c .before .before .before .before .before .before .pre .1 .0)
-          (c .before .before .before .before .before .before .pre .1 .1)) refl,
+          (sound-plain (c .before .before .before .before .before .before .before .pre .1 .0)
+          (c .before .before .before .before .before .before .before .pre .1 .1)) refl,
     )
 
 put-nth-field-end-requires : (t : ℕ) → put-nth-lts.Need-field-end-requires (
@@ -215,8 +215,8 @@ put-nth-field-end-requires : (t : ℕ) → put-nth-lts.Need-field-end-requires (
   step-at-reads.Learnt,
   field-end-reads.Asked,
   field-end-reads.Learnt,
-  find-entry-reads.Asked,
-  find-entry-reads.Learnt,
+  find-reads.Asked,
+  find-reads.Learnt,
   put-nth-each-below t,
   put-nth-each.Post,
   surround-reads.Asked,
@@ -226,11 +226,11 @@ put-nth-field-end-requires t c κs =
     omega (
       arith,
       ready-places
-          (sound-plain (c .before .before .before .before .before .before .pre .1 .0)
-          (c .before .before .before .before .before .before .pre .1 .1)) refl,
+          (sound-plain (c .before .before .before .before .before .before .before .pre .1 .0)
+          (c .before .before .before .before .before .before .before .pre .1 .1)) refl,
     )
 
-put-nth-find-entry-requires : (t : ℕ) → put-nth-lts.Need-find-entry-requires (
+put-nth-find-requires : (t : ℕ) → put-nth-lts.Need-find-requires (
   steps-reads.Asked,
   steps-reads.Learnt,
   put-whole-reads.Asked,
@@ -239,17 +239,17 @@ put-nth-find-entry-requires : (t : ℕ) → put-nth-lts.Need-find-entry-requires
   step-at-reads.Learnt,
   field-end-reads.Asked,
   field-end-reads.Learnt,
-  find-entry-reads.Asked,
-  find-entry-reads.Learnt,
+  find-reads.Asked,
+  find-reads.Learnt,
   put-nth-each-below t,
   put-nth-each.Post,
   surround-reads.Asked,
   surround-reads.Learnt,
 ) (put-nth-at t) put-nth.Post
-put-nth-find-entry-requires t c κs =
+put-nth-find-requires t c κs =
     ready-labels (sound-plain
-    (c .before .before .before .before .before .before .before .before .pre .1 .0)
-    (c .before .before .before .before .before .before .before .before .pre .1 .1))
+    (c .before .before .before .before .before .before .before .before .before .pre .1 .0)
+    (c .before .before .before .before .before .before .before .before .before .pre .1 .1))
     (c .before .field-end .ensures)
 
 put-nth-enum-known-found : (t : ℕ) → put-nth-lts.Need-enum-known-found (
@@ -261,8 +261,8 @@ put-nth-enum-known-found : (t : ℕ) → put-nth-lts.Need-enum-known-found (
   step-at-reads.Learnt,
   field-end-reads.Asked,
   field-end-reads.Learnt,
-  find-entry-reads.Asked,
-  find-entry-reads.Learnt,
+  find-reads.Asked,
+  find-reads.Learnt,
   put-nth-each-below t,
   put-nth-each.Post,
   surround-reads.Asked,
@@ -279,8 +279,8 @@ put-nth-enum-told : (t : ℕ) → put-nth-lts.Need-enum-told (
   step-at-reads.Learnt,
   field-end-reads.Asked,
   field-end-reads.Learnt,
-  find-entry-reads.Asked,
-  find-entry-reads.Learnt,
+  find-reads.Asked,
+  find-reads.Learnt,
   put-nth-each-below t,
   put-nth-each.Post,
   surround-reads.Asked,
@@ -297,8 +297,8 @@ put-nth-same-length-2 : (t : ℕ) → put-nth-lts.Need-same-length-2 (
   step-at-reads.Learnt,
   field-end-reads.Asked,
   field-end-reads.Learnt,
-  find-entry-reads.Asked,
-  find-entry-reads.Learnt,
+  find-reads.Asked,
+  find-reads.Learnt,
   put-nth-each-below t,
   put-nth-each.Post,
   surround-reads.Asked,
@@ -315,28 +315,82 @@ put-nth-returns-2 : (t : ℕ) → put-nth-lts.Need-returns-2 (
   step-at-reads.Learnt,
   field-end-reads.Asked,
   field-end-reads.Learnt,
-  find-entry-reads.Asked,
-  find-entry-reads.Learnt,
+  find-reads.Asked,
+  find-reads.Learnt,
   put-nth-each-below t,
   put-nth-each.Post,
   surround-reads.Asked,
   surround-reads.Learnt,
 ) (put-nth-at t) put-nth.Post
 put-nth-returns-2 t c =
-    nth-missing (c .before .before .before .before .before .before .before .before .before .before .before .args .q .now)
-    (c .before .before .before .before .before .before .before .before .before .before .before .args .p)
-    (c .before .before .before .before .before .before .before .before .before .before .before .args .e)
-    (c .before .before .before .before .before .before .before .before .before .before .before .args .i)
-    (step-before ((c .before .before .before .before .before .before .before .before .before .before .before .pre .1 .0) .step)
-    (c .before .before .before .before .before .before .before .before .steps .ensures)
-    (c .before .before .before .before .before .before .before .if1 .left))
-    (c .before .before .before .before .before .before .step-at .ensures)
-    (c .before .before .before .before .field-end .ensures)
-    (c .before .before .find-entry .ensures)
-    (c .before .before .before .before .before .before .before .before .before .before .before .args .j)
-    (c .before .before .before .before .before .before .before .before .before .before .before .args .d)
-    (c .before .before .before .before .before .before .before .before .before .before .before .args .stop)
+    nth-missing (c .before .before .before .before .before .before .before .before .before .before .before .before .args .query .now)
+    (c .before .before .before .before .before .before .before .before .before .before .before .before .args .path)
+    (c .before .before .before .before .before .before .before .before .before .before .before .before .args .i)
+    (step-before ((c .before .before .before .before .before .before .before .before .before .before .before .before .pre .1 .0) .step)
+    (c .before .before .before .before .before .before .before .before .before .steps .ensures)
+    (c .before .before .before .before .before .before .before .before .if1 .left))
+    (c .before .before .before .before .before .before .before .step-at .ensures)
+    (c .before .before .before .before .field-end .ensures) (c .before .before .find .ensures)
+    (c .before .before .before .before .before .before .before .before .before .before .before .before .args .j)
+    (c .before .before .before .before .before .before .before .before .before .before .before .before .args .room .from)
+    (c .before .before .before .before .before .before .before .before .before .before .before .before .args .room .to)
     (c .enum-told .given .1)
+
+put-nth-sub-at : (t : ℕ) → put-nth-lts.Need-sub-at (
+  steps-reads.Asked,
+  steps-reads.Learnt,
+  put-whole-reads.Asked,
+  put-whole-reads.Learnt,
+  step-at-reads.Asked,
+  step-at-reads.Learnt,
+  field-end-reads.Asked,
+  field-end-reads.Learnt,
+  find-reads.Asked,
+  find-reads.Learnt,
+  put-nth-each-below t,
+  put-nth-each.Post,
+  surround-reads.Asked,
+  surround-reads.Learnt,
+) (put-nth-at t) put-nth.Post
+put-nth-sub-at t c =
+    omega (
+      arith,
+      (sound-places
+          (c .before .before .before .before .before .before .before .before .before .before .before .before .before .before .before .pre .1 .0)
+          (c .before .before .before .before .before .before .before .before .before .before .before .before .before .before .before .pre .1 .1)
+          (c .before .before .before .before .before .before .before .field-end .ensures)
+          (c .before .before .before .before .before .find .ensures)
+          (c .before .before .before .found .given .1)),
+    )
+
+put-nth-add-at : (t : ℕ) → put-nth-lts.Need-add-at (
+  steps-reads.Asked,
+  steps-reads.Learnt,
+  put-whole-reads.Asked,
+  put-whole-reads.Learnt,
+  step-at-reads.Asked,
+  step-at-reads.Learnt,
+  field-end-reads.Asked,
+  field-end-reads.Learnt,
+  find-reads.Asked,
+  find-reads.Learnt,
+  put-nth-each-below t,
+  put-nth-each.Post,
+  surround-reads.Asked,
+  surround-reads.Learnt,
+) (put-nth-at t) put-nth.Post
+put-nth-add-at t c =
+    omega (
+      arith,
+      (sound-places
+          (c .before .before .before .before .before .before .before .before .before .before .before .before .before .before .before .before .pre .1 .0)
+          (c .before .before .before .before .before .before .before .before .before .before .before .before .before .before .before .before .pre .1 .1)
+          (c .before .before .before .before .before .before .before .before .field-end .ensures)
+          (c .before .before .before .before .before .before .find .ensures)
+          (c .before .before .before .before .found .given .1)),
+      c .before .before .before .before .before .before .before .before .before .before .before .before .before .before .before .before .pre .1 .1,
+      (c .before .before .before .before .before .before .before .before .before .before .before .before .before .before .before .before .pre .1 .0) .inside,
+    )
 
 put-nth-add-put-nth-each : (t : ℕ) → put-nth-lts.Need-add-put-nth-each (
   steps-reads.Asked,
@@ -347,8 +401,8 @@ put-nth-add-put-nth-each : (t : ℕ) → put-nth-lts.Need-add-put-nth-each (
   step-at-reads.Learnt,
   field-end-reads.Asked,
   field-end-reads.Learnt,
-  find-entry-reads.Asked,
-  find-entry-reads.Learnt,
+  find-reads.Asked,
+  find-reads.Learnt,
   put-nth-each-below t,
   put-nth-each.Post,
   surround-reads.Asked,
@@ -358,63 +412,11 @@ put-nth-add-put-nth-each t c =
     omega (
       arith,
       (step-before
-          ((c .before .before .before .before .before .before .before .before .before .before .before .before .before .pre .1 .0) .step)
-          (c .before .before .before .before .before .before .before .before .before .before .steps .ensures)
-          (c .before .before .before .before .before .before .before .before .before .if1 .left)),
-    )
-
-put-nth-sub-put-nth-each : (t : ℕ) → put-nth-lts.Need-sub-put-nth-each (
-  steps-reads.Asked,
-  steps-reads.Learnt,
-  put-whole-reads.Asked,
-  put-whole-reads.Learnt,
-  step-at-reads.Asked,
-  step-at-reads.Learnt,
-  field-end-reads.Asked,
-  field-end-reads.Learnt,
-  find-entry-reads.Asked,
-  find-entry-reads.Learnt,
-  put-nth-each-below t,
-  put-nth-each.Post,
-  surround-reads.Asked,
-  surround-reads.Learnt,
-) (put-nth-at t) put-nth.Post
-put-nth-sub-put-nth-each t c =
-    omega (
-      arith,
-      (sound-places
-          (c .before .before .before .before .before .before .before .before .before .before .before .before .before .pre .1 .0)
-          (c .before .before .before .before .before .before .before .before .before .before .before .before .before .pre .1 .1)
-          (c .before .before .before .before .before .before .field-end .ensures)
-          (c .before .before .before .before .find-entry .ensures) (c .before .before .found .given .1)),
-    )
-
-put-nth-add-put-nth-each-2 : (t : ℕ) → put-nth-lts.Need-add-put-nth-each-2 (
-  steps-reads.Asked,
-  steps-reads.Learnt,
-  put-whole-reads.Asked,
-  put-whole-reads.Learnt,
-  step-at-reads.Asked,
-  step-at-reads.Learnt,
-  field-end-reads.Asked,
-  field-end-reads.Learnt,
-  find-entry-reads.Asked,
-  find-entry-reads.Learnt,
-  put-nth-each-below t,
-  put-nth-each.Post,
-  surround-reads.Asked,
-  surround-reads.Learnt,
-) (put-nth-at t) put-nth.Post
-put-nth-add-put-nth-each-2 t c =
-    omega (
-      arith,
-      (sound-places
-          (c .before .before .before .before .before .before .before .before .before .before .before .before .before .pre .1 .0)
-          (c .before .before .before .before .before .before .before .before .before .before .before .before .before .pre .1 .1)
-          (c .before .before .before .before .before .before .field-end .ensures)
-          (c .before .before .before .before .find-entry .ensures) (c .before .before .found .given .1)),
-      c .before .before .before .before .before .before .before .before .before .before .before .before .before .pre .1 .1,
-      (c .before .before .before .before .before .before .before .before .before .before .before .before .before .pre .1 .0) .inside,
+          ((c .before .before .before .before .before .before .before .before .before .before .before .before .before .before .before .before .before .pre .1 .0) .step)
+          (c .before .before .before .before .before .before .before .before .before .before .before .before .before .before .steps .ensures)
+          (c .before .before .before .before .before .before .before .before .before .before .before .before .before .if1 .left)),
+      (steps-fewer (c .before .before .before .before .before .before .before .before .before .before .before .before .before .before .before .before .before .args .query .now)
+          (c .before .before .before .before .before .before .before .before .before .before .before .before .before .before .before .before .before .args .path)),
     )
 
 put-nth-put-nth-each-requires : (t : ℕ) → put-nth-lts.Need-put-nth-each-requires (
@@ -426,31 +428,37 @@ put-nth-put-nth-each-requires : (t : ℕ) → put-nth-lts.Need-put-nth-each-requ
   step-at-reads.Learnt,
   field-end-reads.Asked,
   field-end-reads.Learnt,
-  find-entry-reads.Asked,
-  find-entry-reads.Learnt,
+  find-reads.Asked,
+  find-reads.Learnt,
   put-nth-each-below t,
   put-nth-each.Post,
   surround-reads.Asked,
   surround-reads.Learnt,
 ) (put-nth-at t) put-nth.Post
 put-nth-put-nth-each-requires t c κs = (
-  steps-less (step-before
-      ((c .before .before .before .before .before .before .before .before .before .before .before .before .before .pre .1 .0) .step)
-      (c .before .before .before .before .before .before .before .before .before .before .steps .ensures)
-      (c .before .before .before .before .before .before .before .before .before .if1 .left))
-      (c .before .before .before .before .before .before .before .before .before .before .before .before .before .pre .0),
+  omega (
+    arith,
+    c .before .before .before .before .before .before .before .before .before .before .before .before .before .before .before .before .before .pre .0,
+    (step-before ((c .before .before .before .before .before .before .before .before .before .before .before .before .before .before .before .before .before .pre .1 .0) .step)
+        (c .before .before .before .before .before .before .before .before .before .before .before .before .before .before .steps .ensures)
+        (c .before .before .before .before .before .before .before .before .before .before .before .before .before .if1 .left)),
+    (steps-fewer (c .before .before .before .before .before .before .before .before .before .before .before .before .before .before .before .before .before .args .query .now)
+        (c .before .before .before .before .before .before .before .before .before .before .before .before .before .before .before .before .before .args .path)),
+  ),
   (
-    sound-array (c .before .before .before .before .before .before .before .before .before .before .before .before .before .pre .1 .0)
-        (c .before .before .before .before .before .before .before .before .before .before .before .before .before .pre .1 .1)
-        (c .before .before .before .before .before .before .field-end .ensures)
-        (c .before .before .before .before .find-entry .ensures) (c .before .before .found .given .1)
-        (step-before ((c .before .before .before .before .before .before .before .before .before .before .before .before .before .pre .1 .0) .step)
-        (c .before .before .before .before .before .before .before .before .before .before .steps .ensures)
-        (c .before .before .before .before .before .before .before .before .before .if1 .left)),
-    sound-room (c .before .before .before .before .before .before .before .before .before .before .before .before .before .pre .1 .0)
-        (c .before .before .before .before .before .before .before .before .before .before .before .before .before .pre .1 .1)
-        (c .before .before .before .before .before .before .field-end .ensures)
-        (c .before .before .before .before .find-entry .ensures) (c .before .before .found .given .1),
+    sound-array (c .before .before .before .before .before .before .before .before .before .before .before .before .before .before .before .before .before .pre .1 .0)
+        (c .before .before .before .before .before .before .before .before .before .before .before .before .before .before .before .before .before .pre .1 .1)
+        (c .before .before .before .before .before .before .before .before .before .field-end .ensures)
+        (c .before .before .before .before .before .before .before .find .ensures)
+        (c .before .before .before .before .before .found .given .1)
+        (step-before ((c .before .before .before .before .before .before .before .before .before .before .before .before .before .before .before .before .before .pre .1 .0) .step)
+        (c .before .before .before .before .before .before .before .before .before .before .before .before .before .before .steps .ensures)
+        (c .before .before .before .before .before .before .before .before .before .before .before .before .before .if1 .left)),
+    sound-room (c .before .before .before .before .before .before .before .before .before .before .before .before .before .before .before .before .before .pre .1 .0)
+        (c .before .before .before .before .before .before .before .before .before .before .before .before .before .before .before .before .before .pre .1 .1)
+        (c .before .before .before .before .before .before .before .before .before .field-end .ensures)
+        (c .before .before .before .before .before .before .before .find .ensures)
+        (c .before .before .before .before .before .found .given .1),
   ),
 )
 
@@ -463,8 +471,8 @@ put-nth-enum-known-inner : (t : ℕ) → put-nth-lts.Need-enum-known-inner (
   step-at-reads.Learnt,
   field-end-reads.Asked,
   field-end-reads.Learnt,
-  find-entry-reads.Asked,
-  find-entry-reads.Learnt,
+  find-reads.Asked,
+  find-reads.Learnt,
   put-nth-each-below t,
   put-nth-each.Post,
   surround-reads.Asked,
@@ -481,8 +489,8 @@ put-nth-enum-told-2 : (t : ℕ) → put-nth-lts.Need-enum-told-2 (
   step-at-reads.Learnt,
   field-end-reads.Asked,
   field-end-reads.Learnt,
-  find-entry-reads.Asked,
-  find-entry-reads.Learnt,
+  find-reads.Asked,
+  find-reads.Learnt,
   put-nth-each-below t,
   put-nth-each.Post,
   surround-reads.Asked,
@@ -499,8 +507,8 @@ put-nth-same-length-3 : (t : ℕ) → put-nth-lts.Need-same-length-3 (
   step-at-reads.Learnt,
   field-end-reads.Asked,
   field-end-reads.Learnt,
-  find-entry-reads.Asked,
-  find-entry-reads.Learnt,
+  find-reads.Asked,
+  find-reads.Learnt,
   put-nth-each-below t,
   put-nth-each.Post,
   surround-reads.Asked,
@@ -517,26 +525,25 @@ put-nth-returns-3 : (t : ℕ) → put-nth-lts.Need-returns-3 (
   step-at-reads.Learnt,
   field-end-reads.Asked,
   field-end-reads.Learnt,
-  find-entry-reads.Asked,
-  find-entry-reads.Learnt,
+  find-reads.Asked,
+  find-reads.Learnt,
   put-nth-each-below t,
   put-nth-each.Post,
   surround-reads.Asked,
   surround-reads.Learnt,
 ) (put-nth-at t) put-nth.Post
 put-nth-returns-3 t c =
-    nth-inner-past (c .before .before .before .before .before .before .before .before .before .before .before .before .before .before .before .before .before .before .args .q .now)
-    (c .before .before .before .before .before .before .before .before .before .before .before .before .before .before .before .before .before .before .args .p)
-    (c .before .before .before .before .before .before .before .before .before .before .before .before .before .before .before .before .before .before .args .e)
-    (c .before .before .before .before .before .before .before .before .before .before .before .before .before .before .before .before .before .before .args .i)
-    (step-before ((c .before .before .before .before .before .before .before .before .before .before .before .before .before .before .before .before .before .before .pre .1 .0) .step)
-    (c .before .before .before .before .before .before .before .before .before .before .before .before .before .before .before .steps .ensures)
-    (c .before .before .before .before .before .before .before .before .before .before .before .before .before .before .if1 .left))
-    (c .before .before .before .before .before .before .before .before .before .before .before .before .before .step-at .ensures)
-    (c .before .before .before .before .before .before .before .before .before .before .before .field-end .ensures)
-    (c .before .before .before .before .before .before .before .before .before .find-entry .ensures)
-    (c .before .before .before .before .before .before .before .before .before .before .before .before .before .before .before .before .before .before .args .d)
-    (c .before .before .before .before .before .before .before .found .given .1)
+    nth-inner-past (c .before .before .before .before .before .before .before .before .before .before .before .before .before .before .before .before .before .before .before .before .before .before .args .query .now)
+    (c .before .before .before .before .before .before .before .before .before .before .before .before .before .before .before .before .before .before .before .before .before .before .args .path)
+    (c .before .before .before .before .before .before .before .before .before .before .before .before .before .before .before .before .before .before .before .before .before .before .args .i)
+    (step-before ((c .before .before .before .before .before .before .before .before .before .before .before .before .before .before .before .before .before .before .before .before .before .before .pre .1 .0) .step)
+    (c .before .before .before .before .before .before .before .before .before .before .before .before .before .before .before .before .before .before .before .steps .ensures)
+    (c .before .before .before .before .before .before .before .before .before .before .before .before .before .before .before .before .before .before .if1 .left))
+    (c .before .before .before .before .before .before .before .before .before .before .before .before .before .before .before .before .before .step-at .ensures)
+    (c .before .before .before .before .before .before .before .before .before .before .before .before .before .before .field-end .ensures)
+    (c .before .before .before .before .before .before .before .before .before .before .before .before .find .ensures)
+    (c .before .before .before .before .before .before .before .before .before .before .before .before .before .before .before .before .before .before .before .before .before .before .args .room .from)
+    (c .before .before .before .before .before .before .before .before .before .before .found .given .1)
     (c .before .before .before .before .put-nth-each .ensures) (c .enum-told2 .given .1)
 
 put-nth-surround-requires : (t : ℕ) → put-nth-lts.Need-surround-requires (
@@ -548,30 +555,30 @@ put-nth-surround-requires : (t : ℕ) → put-nth-lts.Need-surround-requires (
   step-at-reads.Learnt,
   field-end-reads.Asked,
   field-end-reads.Learnt,
-  find-entry-reads.Asked,
-  find-entry-reads.Learnt,
+  find-reads.Asked,
+  find-reads.Learnt,
   put-nth-each-below t,
   put-nth-each.Post,
   surround-reads.Asked,
   surround-reads.Learnt,
 ) (put-nth-at t) put-nth.Post
 put-nth-surround-requires t c κs =
-    sound-around (c .before .before .before .before .before .before .before .before .before .before .before .before .before .before .before .before .before .before .before .before .pre .1 .0)
-    (c .before .before .before .before .before .before .before .before .before .before .before .before .before .before .before .before .before .before .before .before .pre .1 .1)
-    (c .before .before .before .before .before .before .before .before .before .before .before .before .before .field-end .ensures)
-    (c .before .before .before .before .before .before .before .before .before .before .before .find-entry .ensures)
-    (c .before .before .before .before .before .before .before .before .before .found .given .1)
-    (step-before ((c .before .before .before .before .before .before .before .before .before .before .before .before .before .before .before .before .before .before .before .before .pre .1 .0) .step)
-    (c .before .before .before .before .before .before .before .before .before .before .before .before .before .before .before .before .before .steps .ensures)
-    (c .before .before .before .before .before .before .before .before .before .before .before .before .before .before .before .before .if1 .left))
+    sound-around (c .before .before .before .before .before .before .before .before .before .before .before .before .before .before .before .before .before .before .before .before .before .before .before .before .pre .1 .0)
+    (c .before .before .before .before .before .before .before .before .before .before .before .before .before .before .before .before .before .before .before .before .before .before .before .before .pre .1 .1)
+    (c .before .before .before .before .before .before .before .before .before .before .before .before .before .before .before .before .field-end .ensures)
+    (c .before .before .before .before .before .before .before .before .before .before .before .before .before .before .find .ensures)
+    (c .before .before .before .before .before .before .before .before .before .before .before .before .found .given .1)
+    (step-before ((c .before .before .before .before .before .before .before .before .before .before .before .before .before .before .before .before .before .before .before .before .before .before .before .before .pre .1 .0) .step)
+    (c .before .before .before .before .before .before .before .before .before .before .before .before .before .before .before .before .before .before .before .before .before .steps .ensures)
+    (c .before .before .before .before .before .before .before .before .before .before .before .before .before .before .before .before .before .before .before .before .if1 .left))
     (omega (
       arith,
-      c .before .before .before .before .before .before .before .before .before .before .before .before .before .before .before .step-at .ensures,
-      along-small ((c .before .before .before .before .before .before .before .before .before .before .before .before .before .before .before .before .before .before .before .before .pre .1 .0) .along)
-          (c .before .before .before .before .before .before .before .before .before .before .before .before .before .before .before .before .before .before .before .before .args .i)
-          (step-before ((c .before .before .before .before .before .before .before .before .before .before .before .before .before .before .before .before .before .before .before .before .pre .1 .0) .step)
-          (c .before .before .before .before .before .before .before .before .before .before .before .before .before .before .before .before .before .steps .ensures)
-          (c .before .before .before .before .before .before .before .before .before .before .before .before .before .before .before .before .if1 .left)),
+      c .before .before .before .before .before .before .before .before .before .before .before .before .before .before .before .before .before .before .before .step-at .ensures,
+      along-small ((c .before .before .before .before .before .before .before .before .before .before .before .before .before .before .before .before .before .before .before .before .before .before .before .before .pre .1 .0) .along)
+          (c .before .before .before .before .before .before .before .before .before .before .before .before .before .before .before .before .before .before .before .before .before .before .before .before .args .i)
+          (step-before ((c .before .before .before .before .before .before .before .before .before .before .before .before .before .before .before .before .before .before .before .before .before .before .before .before .pre .1 .0) .step)
+          (c .before .before .before .before .before .before .before .before .before .before .before .before .before .before .before .before .before .before .before .before .before .steps .ensures)
+          (c .before .before .before .before .before .before .before .before .before .before .before .before .before .before .before .before .before .before .before .before .if1 .left)),
     ))
     (c .before .before .before .before .before .before .put-nth-each .kept .0)
     (c .before .before .before .before .before .before .put-nth-each .ensures)
@@ -586,8 +593,8 @@ put-nth-same-length-4 : (t : ℕ) → put-nth-lts.Need-same-length-4 (
   step-at-reads.Learnt,
   field-end-reads.Asked,
   field-end-reads.Learnt,
-  find-entry-reads.Asked,
-  find-entry-reads.Learnt,
+  find-reads.Asked,
+  find-reads.Learnt,
   put-nth-each-below t,
   put-nth-each.Post,
   surround-reads.Asked,
@@ -604,38 +611,38 @@ put-nth-returns-4 : (t : ℕ) → put-nth-lts.Need-returns-4 (
   step-at-reads.Learnt,
   field-end-reads.Asked,
   field-end-reads.Learnt,
-  find-entry-reads.Asked,
-  find-entry-reads.Learnt,
+  find-reads.Asked,
+  find-reads.Learnt,
   put-nth-each-below t,
   put-nth-each.Post,
   surround-reads.Asked,
   surround-reads.Learnt,
 ) (put-nth-at t) put-nth.Post
 put-nth-returns-4 t c =
-    nth-inner-written (c .before .before .before .before .before .before .before .before .before .before .before .before .before .before .before .before .before .before .before .before .before .before .before .args .q .now)
-    (c .before .before .before .before .before .before .before .before .before .before .before .before .before .before .before .before .before .before .before .before .before .before .before .args .p)
-    (c .before .before .before .before .before .before .before .before .before .before .before .before .before .before .before .before .before .before .before .before .before .before .before .args .e)
-    (c .before .before .before .before .before .before .before .before .before .before .before .before .before .before .before .before .before .before .before .before .before .before .before .args .i)
-    (step-before ((c .before .before .before .before .before .before .before .before .before .before .before .before .before .before .before .before .before .before .before .before .before .before .before .pre .1 .0) .step)
-    (c .before .before .before .before .before .before .before .before .before .before .before .before .before .before .before .before .before .before .before .before .steps .ensures)
-    (c .before .before .before .before .before .before .before .before .before .before .before .before .before .before .before .before .before .before .before .if1 .left))
-    (c .before .before .before .before .before .before .before .before .before .before .before .before .before .before .before .before .before .before .step-at .ensures)
-    (c .before .before .before .before .before .before .before .before .before .before .before .before .before .before .before .before .field-end .ensures)
-    (c .before .before .before .before .before .before .before .before .before .before .before .before .before .before .find-entry .ensures)
-    ((c .before .before .before .before .before .before .before .before .before .before .before .before .before .before .before .before .before .before .before .before .before .before .before .pre .1 .0) .inside)
-    (c .before .before .before .before .before .before .before .before .before .before .before .before .found .given .1)
+    nth-inner-written (c .before .before .before .before .before .before .before .before .before .before .before .before .before .before .before .before .before .before .before .before .before .before .before .before .before .before .before .args .query .now)
+    (c .before .before .before .before .before .before .before .before .before .before .before .before .before .before .before .before .before .before .before .before .before .before .before .before .before .before .before .args .path)
+    (c .before .before .before .before .before .before .before .before .before .before .before .before .before .before .before .before .before .before .before .before .before .before .before .before .before .before .before .args .i)
+    (step-before ((c .before .before .before .before .before .before .before .before .before .before .before .before .before .before .before .before .before .before .before .before .before .before .before .before .before .before .before .pre .1 .0) .step)
+    (c .before .before .before .before .before .before .before .before .before .before .before .before .before .before .before .before .before .before .before .before .before .before .before .before .steps .ensures)
+    (c .before .before .before .before .before .before .before .before .before .before .before .before .before .before .before .before .before .before .before .before .before .before .before .if1 .left))
+    (c .before .before .before .before .before .before .before .before .before .before .before .before .before .before .before .before .before .before .before .before .before .before .step-at .ensures)
+    (c .before .before .before .before .before .before .before .before .before .before .before .before .before .before .before .before .before .before .before .field-end .ensures)
+    (c .before .before .before .before .before .before .before .before .before .before .before .before .before .before .before .before .before .find .ensures)
+    ((c .before .before .before .before .before .before .before .before .before .before .before .before .before .before .before .before .before .before .before .before .before .before .before .before .before .before .before .pre .1 .0) .inside)
+    (c .before .before .before .before .before .before .before .before .before .before .before .before .before .before .before .found .given .1)
     (c .before .before .before .before .before .before .before .before .before .put-nth-each .ensures)
     (c .before .before .before .before .before .inner .given .1)
     (c .before .before .surround .ensures)
 
 abbrev put-nth-each-Inv-loop : put-nth-each-lts.InvT-loop
-put-nth-each-Inv-loop w₀ q p e i a b j d stop x₀ n₀ w x n =
-    (WriterReady soundsBytes w q p e i x b d stop × (d + (b - x) ≤ stop)) × (length w ≡ length w₀)
-    × ((v : List ℕ) (r : Nth) → PutsNthEach w v q p e i x b n d stop r → PutsNthEach w₀ v q p e i a
-    b j d stop r)
+put-nth-each-Inv-loop work₀ query path i j room end at₀ left₀ work at left =
+    (WriterReady soundsBytes work query path i (span at end) room × RoomFor (span at end) room) ×
+    (length work ≡ length work₀)
+    × ((v : List ℕ) (r : Nth) → PutsNthEach work v query path i (span at end) left room r
+    → PutsNthEach work₀ v query path i (span at₀ end) j room r)
 
 abbrev put-nth-each-μ-loop : put-nth-each-lts.MeasureT-loop
-put-nth-each-μ-loop w₀ q p e i a b j d stop x₀ n₀ w x n = b - x
+put-nth-each-μ-loop work₀ query path i j room end at₀ left₀ work at left = end - at
 
 put-nth-each-loop-holds : (t : ℕ) → put-nth-each-lts.Need-loop-holds (
   field-end-reads.Asked,
@@ -774,8 +781,8 @@ pub +put-nth+put-nth-each-spec : {M : Type 1} → statement M
   step-at-reads.Learnt,
   field-end-reads.Asked,
   field-end-reads.Learnt,
-  find-entry-reads.Asked,
-  find-entry-reads.Learnt,
+  find-reads.Asked,
+  find-reads.Learnt,
   put-nth-each-below t,
   put-nth-each.Post,
   surround-reads.Asked,
@@ -790,14 +797,14 @@ pub +put-nth+put-nth-each-spec : {M : Type 1} → statement M
     (put-nth-step-at-requires t)
     (put-nth-add-field-end t)
     (put-nth-field-end-requires t)
-    (put-nth-find-entry-requires t)
+    (put-nth-find-requires t)
     (put-nth-enum-known-found t)
     (put-nth-enum-told t)
     (put-nth-same-length-2 t)
     (put-nth-returns-2 t)
+    (put-nth-sub-at t)
+    (put-nth-add-at t)
     (put-nth-add-put-nth-each t)
-    (put-nth-sub-put-nth-each t)
-    (put-nth-add-put-nth-each-2 t)
     (put-nth-put-nth-each-requires t)
     (put-nth-enum-known-inner t)
     (put-nth-enum-told-2 t)

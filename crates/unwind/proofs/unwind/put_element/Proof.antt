@@ -9,32 +9,32 @@ use Rattle.unwind.proofs.unwind.put_element.Lts as lts
 use Rattle.areas.proofs.area.copy.Reads as copy-reads
 use Rattle.unwind.proofs.unwind.surround.Reads as surround-reads
 
-sub-copy : tie.Need-sub-copy
-sub-copy c = omega (arith, (element-places (c .before .before .pre)))
+sub-at : tie.Need-sub-at
+sub-at c = omega (arith, (element-places (c .before .before .before .pre)))
 
-add-copy : tie.Need-add-copy
-add-copy c =
+add-at : tie.Need-add-at
+add-at c =
     omega (
       arith,
-      (element-places (c .before .before .pre)),
-      (c .before .before .pre) .room,
-      (c .before .before .pre) .inside,
+      (element-places (c .before .before .before .before .pre)),
+      (c .before .before .before .before .pre) .room,
+      (c .before .before .before .before .pre) .inside,
     )
 
 copy-requires : tie.Need-copy-requires
 copy-requires c κs =
     omega (
       arith,
-      (element-places (c .before .before .pre)),
-      (c .before .before .pre) .room,
-      (c .before .before .pre) .inside,
-      (c .before .before .pre) .below,
-      (c .before .before .pre) .element .value-is .ends,
+      (element-places (c .before .before .before .before .before .pre)),
+      (c .before .before .before .before .before .pre) .room,
+      (c .before .before .before .before .before .pre) .inside,
+      (c .before .before .before .before .before .pre) .below,
+      (c .before .before .before .before .before .pre) .element .value-is .ends,
     )
 
 surround-requires : tie.Need-surround-requires
 surround-requires c κs =
-    element-around (c .before .before .before .before .before .before .pre)
+    element-around (c .before .before .before .before .before .before .before .before .before .pre)
     (c .before .before .before .copy .ensures) (c .before .before .before .copy .kept .0)
 
 same-length : tie.Need-same-length
@@ -42,10 +42,10 @@ same-length c = search needs
 
 returns : tie.Need-returns
 returns c =
-    element-put (c .before .before .before .before .before .before .before .before .before .pre)
+    element-put (c .before .before .before .before .before .before .before .before .before .before .before .before .pre)
     (c .before .before .before .before .before .before .copy .ensures)
     (c .before .before .surround .ensures)
 
 pub put-element-spec : {M : Type 1} → statement M
 put-element-spec =
-    tie.close (tie.spec sub-copy add-copy copy-requires surround-requires same-length returns)
+    tie.close (tie.spec sub-at add-at copy-requires surround-requires same-length returns)

@@ -21,8 +21,7 @@ same-length c = search needs
 
 returns : tie.Need-returns
 returns c =
-    outcome-past (c .before .before .before .before .before .before .before .before .args .i)
-    (c .before .before .before .before .put-nth .ensures)
+    outcome-past (c .before .before .before .before .put-nth .ensures)
     (c .before .before .before .before .before .before .before .before .pre .2)
     (c .enum-told .given .1)
 
@@ -31,8 +30,8 @@ same-length-2 c = search needs
 
 returns-2 : tie.Need-returns-2
 returns-2 c =
-    outcome-written (c .before .before .before .before .before .before .before .before .before .args .i)
-    (c .before .before .before .before .before .put-nth .ensures) (c .before .one .given .1)
+    outcome-written (c .before .before .before .before .before .put-nth .ensures)
+    (c .before .one .given .1)
 
 pub put-outcome-spec : {M : Type 1} → statement M
 put-outcome-spec =

@@ -7,13 +7,13 @@ use Rattle.unwind.proofs.unwind.put_whole.Reads as reads
 use Rattle.unwind.proofs.unwind.put_whole.Lts as lts
 use Rattle.areas.proofs.area.copy.Reads as copy-reads
 
-sub-t9 : tie.Need-sub-t9
-sub-t9 c = search needs
+sub-t7 : tie.Need-sub-t7
+sub-t7 c = search needs
 
 returns : tie.Need-returns
 returns c =
-    λ t h. whole-past (c .before .before .args .w .now) (c .before .before .args .d)
-    (c .before .before .args .stop) t (c .before .before .args .j) (c .if1 .taken)
+    λ t h. whole-past (c .before .before .args .work .now) (c .before .before .args .room .from)
+    (c .before .before .args .room .to) t (c .before .before .args .j) (c .if1 .taken)
 
 copy-requires : tie.Need-copy-requires
 copy-requires c κs = search needs
@@ -27,4 +27,4 @@ returns-2 c =
     (c .before .before .before .before .if1 .left) (c .before .before .copy .ensures) h
 
 pub put-whole-spec : {M : Type 1} → statement M
-put-whole-spec = tie.close (tie.spec sub-t9 returns copy-requires same-length returns-2)
+put-whole-spec = tie.close (tie.spec sub-t7 returns copy-requires same-length returns-2)

@@ -9,22 +9,27 @@ use Rattle.unwind.proofs.unwind.surround.Reads as reads
 use Rattle.unwind.proofs.unwind.surround.Lts as lts
 use Rattle.areas.proofs.area.copy.Reads as copy-reads
 use Rattle.areas.proofs.area.finish.Reads as finish-reads
-use Rattle.place.proofs.place.entry.Reads as entry-reads
+use Rattle.format.proofs.labels.entry.Reads as entry-reads
+use Rattle.format.proofs.labels.heads.Reads as heads-reads
 
-sub-h : tie.Need-sub-h
-sub-h c = search needs
+heads-requires : tie.Need-heads-requires
+heads-requires c κs = search needs
 
-add-h : tie.Need-add-h
-add-h c = search needs
+sub-at : tie.Need-sub-at
+sub-at c = search needs
 
-sub-h-2 : tie.Need-sub-h-2
-sub-h-2 c = search needs
+add-at : tie.Need-add-at
+add-at c = search needs
+
+sub-at-2 : tie.Need-sub-at-2
+sub-at-2 c = search needs
 
 entry-requires : tie.Need-entry-requires
 entry-requires c κs = (
-  around-behind (c .before .before .pre),
-  (c .before .before .pre) .byte,
-  (c .before .before .pre) .small,
+  around-behind (c .before .before .before .before .before .before .pre)
+      (c .before .before .before .before .heads .ensures),
+  (c .before .before .before .before .before .before .pre) .label,
+  (c .before .before .before .before .before .before .pre) .small,
 )
 
 enum-known-inner : tie.Need-enum-known-inner
@@ -38,65 +43,69 @@ same-length c = search needs
 
 returns : tie.Need-returns
 returns c =
-    surround-large (c .before .before .before .before .before .before .before .pre)
+    surround-large (c .before .before .before .before .before .before .before .before .before .before .before .pre)
+    (c .before .before .before .before .before .before .before .before .before .heads .ensures)
     (c .before .before .before .before .entry .ensures) (c .enum-told .given .1)
 
-add-copy : tie.Need-add-copy
-add-copy c = search needs
+add-t16 : tie.Need-add-t16
+add-t16 c = search needs
 
-sub-copy : tie.Need-sub-copy
-sub-copy c = search needs
+sub-t17 : tie.Need-sub-t17
+sub-t17 c = search needs
 
-add-copy-2 : tie.Need-add-copy-2
-add-copy-2 c = search needs
+add-t16-2 : tie.Need-add-t16-2
+add-t16-2 c = search needs
 
 copy-requires : tie.Need-copy-requires
 copy-requires c κs = search needs
 
 copy-requires-2 : tie.Need-copy-requires-2
 copy-requires-2 c κs = (
-  (c .before .before .before .before .before .before .before .before .before .before .before .before .before .pre) .within,
+  (c .before .before .before .before .before .before .before .before .before .before .before .before .before .before .before .before .before .before .before .before .pre) .within,
   omega (
     arith,
     (around-end
-        (c .before .before .before .before .before .before .before .before .before .before .before .before .before .pre)
-        (c .before .before .before .before .before .before .before .before .before .before .entry .ensures)
-        (c .before .before .before .before .before .before .inner .given .1)),
-    (c .before .before .before .before .before .before .before .before .before .before .before .before .before .pre) .below,
+        (c .before .before .before .before .before .before .before .before .before .before .before .before .before .before .before .before .before .before .before .before .pre)
+        (c .before .before .before .before .before .before .before .before .before .before .before .before .before .before .before .before .before .before .heads .ensures)
+        (c .before .before .before .before .before .before .before .before .before .before .before .before .before .entry .ensures)
+        (c .before .before .before .before .before .before .before .before .before .inner .given .1)),
+    (c .before .before .before .before .before .before .before .before .before .before .before .before .before .before .before .before .before .before .before .before .pre) .below,
   ),
-  (around-end (c .before .before .before .before .before .before .before .before .before .before .before .before .before .pre)
-      (c .before .before .before .before .before .before .before .before .before .before .entry .ensures)
-      (c .before .before .before .before .before .before .inner .given .1)) .1,
+  (around-end (c .before .before .before .before .before .before .before .before .before .before .before .before .before .before .before .before .before .before .before .before .pre)
+      (c .before .before .before .before .before .before .before .before .before .before .before .before .before .before .before .before .before .before .heads .ensures)
+      (c .before .before .before .before .before .before .before .before .before .before .before .before .before .entry .ensures)
+      (c .before .before .before .before .before .before .before .before .before .inner .given .1)) .1,
   omega (
     arith,
-    (c .before .before .before .before .before .before .before .before .before .before .before .before .before .pre) .inside,
-    c .before .before .before .before .before .before .before .before .before .before .entry .kept .0,
+    (c .before .before .before .before .before .before .before .before .before .before .before .before .before .before .before .before .before .before .before .before .pre) .inside,
+    c .before .before .before .before .before .before .before .before .before .before .before .before .before .entry .kept .0,
     c .before .before .before .copy .kept .0,
   ),
 )
 
 finish-requires : tie.Need-finish-requires
 finish-requires c κs = (
-  finishable (c .before .before .before .before .before .before .before .before .before .before .before .before .before .before .before .before .before .args .d)
+  finishable (c .before .before .before .before .before .before .before .before .before .before .before .before .before .before .before .before .before .before .before .before .before .before .before .before .args .room .from)
       (omega (
         arith,
         (around-end
-            (c .before .before .before .before .before .before .before .before .before .before .before .before .before .before .before .before .before .pre)
-            (c .before .before .before .before .before .before .before .before .before .before .before .before .before .before .entry .ensures)
-            (c .before .before .before .before .before .before .before .before .before .before .inner .given .1)),
-        (c .before .before .before .before .before .before .before .before .before .before .before .before .before .before .before .before .before .pre) .heads,
+            (c .before .before .before .before .before .before .before .before .before .before .before .before .before .before .before .before .before .before .before .before .before .before .before .before .pre)
+            (c .before .before .before .before .before .before .before .before .before .before .before .before .before .before .before .before .before .before .before .before .before .before .heads .ensures)
+            (c .before .before .before .before .before .before .before .before .before .before .before .before .before .before .before .before .before .entry .ensures)
+            (c .before .before .before .before .before .before .before .before .before .before .before .before .before .inner .given .1)),
+        (c .before .before .before .before .before .before .before .before .before .before .before .before .before .before .before .before .before .before .before .before .before .before .before .before .pre) .heads,
       ))
       (omega (
         arith,
-        (c .before .before .before .before .before .before .before .before .before .before .before .before .before .before .before .before .before .pre) .inside,
-        c .before .before .before .before .before .before .before .before .before .before .before .before .before .before .entry .kept .0,
+        (c .before .before .before .before .before .before .before .before .before .before .before .before .before .before .before .before .before .before .before .before .before .before .before .before .pre) .inside,
+        c .before .before .before .before .before .before .before .before .before .before .before .before .before .before .before .before .before .entry .kept .0,
         c .before .before .before .before .before .before .before .copy .kept .0,
         c .before .before .before .copy2 .kept .0,
       )) (c .before .before .before .copy2 .ensures),
   omega (
     arith,
-    (c .before .before .before .before .before .before .before .before .before .before .before .before .before .before .before .before .before .pre) .small,
-    c .before .before .before .before .before .before .before .before .before .before .before .before .before .before .entry .kept .0,
+    (c .before .before .before .before .before .before .before .before .before .before .before .before .before .before .before .before .before .before .before .before .before .before .before .before .pre) .small,
+    c .before .before .before .before .before .before .before .before .before .before .before .before .before .before .before .before .before .entry .kept .0,
     c .before .before .before .before .before .before .before .copy .kept .0,
     c .before .before .before .copy2 .kept .0,
   ),
@@ -107,9 +116,10 @@ same-length-2 c = search needs
 
 returns-2 : tie.Need-returns-2
 returns-2 c =
-    surround-at (c .before .before .before .before .before .before .before .before .before .before .before .before .before .before .before .before .before .before .before .before .pre)
-    (c .before .before .before .before .before .before .before .before .before .before .before .before .before .before .before .before .before .entry .ensures)
-    (c .before .before .before .before .before .before .before .before .before .before .before .before .before .inner .given .1)
+    surround-at (c .before .before .before .before .before .before .before .before .before .before .before .before .before .before .before .before .before .before .before .before .before .before .before .before .before .before .before .pre)
+    (c .before .before .before .before .before .before .before .before .before .before .before .before .before .before .before .before .before .before .before .before .before .before .before .before .before .heads .ensures)
+    (c .before .before .before .before .before .before .before .before .before .before .before .before .before .before .before .before .before .before .before .before .entry .ensures)
+    (c .before .before .before .before .before .before .before .before .before .before .before .before .before .before .before .before .inner .given .1)
     (c .before .before .before .before .before .before .before .before .before .before .copy .ensures)
     (c .before .before .before .before .before .before .copy2 .ensures)
     (c .before .before .finish .ensures)
@@ -118,17 +128,18 @@ pub surround-spec : {M : Type 1} → statement M
 surround-spec =
     tie.close
     (tie.spec
-    sub-h
-    add-h
-    sub-h-2
+    heads-requires
+    sub-at
+    add-at
+    sub-at-2
     entry-requires
     enum-known-inner
     enum-told
     same-length
     returns
-    add-copy
-    sub-copy
-    add-copy-2
+    add-t16
+    sub-t17
+    add-t16-2
     copy-requires
     copy-requires-2
     finish-requires
