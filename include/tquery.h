@@ -86,7 +86,7 @@
  * not proved. The most that was seen in cases made to go deep and in random
  * ones, with a return address and four arguments on the stack counted in:
  *
- *     tquery_run         10,272 bytes
+ *     tquery_run          8,928 bytes
  *     tquery_check_query  3,048 bytes
  *     tquery_check_array  1,400 bytes
  *
@@ -113,7 +113,7 @@ extern "C" {
 #define TQUERY_TREE_MAX 2048    /* the largest tree */
 
 /* No call was measured to use more stack, in bytes. Tested, not proved. */
-#define TQUERY_STACK_MAX 11264
+#define TQUERY_STACK_MAX 10240
 
 /* The numbers of the table. */
 #define TQUERY_ACCEPTED 0

@@ -6,7 +6,7 @@ ghost use lib.ListN.{length};
 ghost use Rattle.spec_trees.specs.Bytes.{big};
 ghost use Rattle.areas.specs.declared.area.Out.{Out};
 ghost use Rattle.areas.specs.Area.{Wrote};
-ghost use Rattle.areas.specs.Number.{twoAt, twoBytes, wordAt};
+ghost use Rattle.areas.specs.Number.{twoLimit, twoAt, twoBytes, wordAt};
 
 /// A byte as an index or a length.
 pub fn wide(byte: u8) -> usize
@@ -25,14 +25,14 @@ fn wide_word(byte: u8) -> u64
 /// The number of two bytes that stands at `at`.
 pub fn two_at(area: &[u8], at: usize) -> usize
     requires { ⌜ at + 2 ≤ length (now area) ⌝ }
-    ensures { λ r. ⌜ (r ≡ twoAt (now (area .entry)) at) × (r < 65536) ⌝ }
+    ensures { λ r. ⌜ (r ≡ twoAt (now (area .entry)) at) × (r < twoLimit) ⌝ }
 {
     wide(area[at]) * 256 + wide(area[at + 1])
 }
 
 /// Stores a number at `at`, in two bytes.
 pub fn put_two(work: &mut [u8], at: usize, number: usize)
-    requires { ⌜ (at + 2 ≤ length (now work)) × (number < 65536) ⌝ }
+    requires { ⌜ (at + 2 ≤ length (now work)) × (number < twoLimit) ⌝ }
     ensures { λ _. ⌜ Wrote (now (work .entry)) (now (work .exit)) at (at + 2) (twoBytes number) (Out.At (at + 2)) ⌝ }
 {
     work[at + 1] = (number % 256) as u8;

@@ -2,6 +2,7 @@
 ghost use Rattle.certificate.specs.Cut.{MakesRuns, CutSame};
 use engine::answer::length;
 use engine::run::run;
+use format::limits::Limits;
 use spec_run::answer::Answer;
 
 /// The answers of three runs: of the two parts of a query, and of the uncut query.
@@ -12,7 +13,7 @@ pub struct Runs {
 }
 
 /// Runs `before` over the input, `behind` over its result, and then `query` over the input, all with the same joined
-/// array and each in a work area of 65,536 bytes. The second run has a result area of its own, in which its result
+/// array and each in the least work area. The second run has a result area of its own, in which its result
 /// stays; the other two have the first, in which the uncut run's result stays.
 pub fn cut<'a>(
     query: &'a [u8],
@@ -32,7 +33,7 @@ pub fn cut<'a>(
         (now (first .entry)) (now (second .entry)) r (now (first .exit)) (now (second .exit))
         ⌝ }
 {
-    let mut work = [0u8; 65536];
+    let mut work = [0u8; Limits::WORK];
     let a = run(before, input, joined, &mut work, first);
     let n = length(a);
     let b = run(behind, &first[..n], joined, &mut work, second);

@@ -21,7 +21,7 @@ pub fn read_number(width: usize) -> Part
     if got < width {
         return Part::Cut;
     }
-    Part::Whole(wide(b[0]) * 65536 + wide(b[1]) * 256 + wide(b[2]))
+    Part::Whole((wide(b[0]) * 256 + wide(b[1])) * 256 + wide(b[2]))
 }
 
 /// Reads n bytes to a place of a buffer: where they end.

@@ -13,6 +13,9 @@ pub enum Turn {
     Malformed,
 }
 
+/// The room for the parts of a record.
+const PARTS: usize = 65536;
+
 /// Reads what is behind a query that ends at q, and runs the case.
 fn behind_query(q: usize, bytes: &mut [u8]) -> Turn {
     let Part::Whole(i) = read_part(bytes, q) else {
@@ -47,7 +50,7 @@ fn behind_query(q: usize, bytes: &mut [u8]) -> Turn {
 
 /// Reads a record, runs its case and compares it.
 pub fn next_case() -> Turn {
-    let mut bytes = [0u8; 65536];
+    let mut bytes = [0u8; PARTS];
     match read_part(&mut bytes, 0) {
         Part::Whole(q) => behind_query(q, &mut bytes),
         Part::Missing => Turn::Ended,

@@ -15,7 +15,11 @@ pub fn holds<'a>(query: &'a [u8], criterion: Span, area: &'a [u8], tree: Span, l
     requires { ⌜ Evaluable (now query) criterion (now area) tree left ⌝ }
     ensures { λ r. ⌜ Meets (now (query .entry)) criterion (now (area .entry)) tree left r ⌝ }
 {
-    // a call gets a new span, so that only its branch pays for the copy that the call needs
+    // the calls get a new span, so that only their branches pay for the copy that a call needs
+    let at = Span {
+        from: tree.from,
+        to: tree.to,
+    };
     let read = criterion_at(query, criterion);
     match read {
         CriterionAt::Always => {
@@ -28,31 +32,15 @@ pub fn holds<'a>(query: &'a [u8], criterion: Span, area: &'a [u8], tree: Span, l
             return path_equals_literal(query, path, literal, area, tree);
         }
         CriterionAt::Same(one, two) => {
-            let at = Span {
-                from: tree.from,
-                to: tree.to,
-            };
             return same_paths(query, one, area, at, two, area, at);
         }
         CriterionAt::Negated(one) => {
-            let at = Span {
-                from: tree.from,
-                to: tree.to,
-            };
             return !holds(query, one, area, at, left - 1);
         }
         CriterionAt::Both(one, two) => {
-            let at = Span {
-                from: tree.from,
-                to: tree.to,
-            };
             return holds_both(query, one, two, area, at, left - 1);
         }
         CriterionAt::Either(one, two) => {
-            let at = Span {
-                from: tree.from,
-                to: tree.to,
-            };
             return holds_either(query, one, two, area, at, left - 1);
         }
     }

@@ -23,7 +23,7 @@ use Rattle.format.specs.declared.check.Check.the-variants.{Accepted, Ove
 use Rattle.format.specs.Labels.{labelAt}
 use Rattle.format.specs.Head.{headAt, spanAt}
 use Rattle.format.specs.Check.{rootOk, treeOk, arrayOk, labelOk, treesOk, labelsOk, inputOk, checkOf}
-use Rattle.spec_trees.specs.Bytes.{arrayBytes}
+use Rattle.spec_trees.specs.Bytes.{arrayBytes, labelTag}
 use Rattle.spec_trees.specs.Within.{AllBytes, Within}
 use Rattle.spec_trees.specs.OptionLaws.{only-some, map-some, some-equal}
 use Rattle.spec_trees.specs.SizeLaws.{length-array}
@@ -203,15 +203,15 @@ maybe-only g true x = refl
 maybe-only g false x = refl
 
 -- the three tests
-label-tests : (d k j : ℕ) (b : List ℕ) → labelOk d k (7, j ∷ b) ≡ isLabel j && (ltb k j && spanOk d b)
+label-tests : (d k j : ℕ) (b : List ℕ) → labelOk d k (labelTag, j ∷ b) ≡ isLabel j && (ltb k j && spanOk d b)
 unfolding labelOk labelR labelC tagged only spanOk inside above
 label-tests d k j b = maybe-only _ (isLabel j) _ ∙ ap (λ x. isLabel j && x) (gate (arrayWith (treeR d)) j k (Readers.fields b))
 
-pub label-tag : (d k t : ℕ) (c : List ℕ) → (t ≡ 7 → ⊥) → labelOk d k (t, c) ≡ false
+pub label-tag : (d k t : ℕ) (c : List ℕ) → (t ≡ labelTag → ⊥) → labelOk d k (t, c) ≡ false
 unfolding labelOk labelR tagged only maybe
-label-tag d k t c n = rw (ne-eqb t 7 n) refl
+label-tag d k t c n = rw (ne-eqb t labelTag n) refl
 
-label-no-content : (d k t : ℕ) (b : Bool) → eqb t 7 ≡ b → labelOk d k (t, []) ≡ false
+label-no-content : (d k t : ℕ) (b : Bool) → eqb t labelTag ≡ b → labelOk d k (t, []) ≡ false
 unfolding labelOk labelR labelC tagged only maybe
 label-no-content d k t true e = rw e refl
 label-no-content d k t false e = rw e refl
@@ -220,9 +220,9 @@ module _ (s : List ℕ) (at to d k t : ℕ) (within : to ≤ length s) where
   pub label-empty : at + 3 ≤ to → to - at < 4 → labelOk d k (t, slice (at + 3) to s) ≡ false
   label-empty a b =
       let e : at + 3 ≡ to = omega arith in
-      rw (e, slice-empty to s) (label-no-content d k t (eqb t 7) refl)
+      rw (e, slice-empty to s) (label-no-content d k t (eqb t labelTag) refl)
 
-  module _ (tag : t ≡ 7) (four : 4 ≤ to - at) (j : ℕ) (q : j ≡ labelAt s at) where
+  module _ (tag : t ≡ labelTag) (four : 4 ≤ to - at) (j : ℕ) (q : j ≡ labelAt s at) where
     label-is : labelOk d k (t, slice (at + 3) to s) ≡ isLabel j && (ltb k j && spanOk d (slice (at + 4) to s))
     label-is =
         let c : slice (at + 3) to s ≡ getD s (at + 3) 0 ∷ slice (suc (at + 3)) to s = slice-cons (at + 3) to s 0 (omega arith) within in
@@ -278,7 +278,7 @@ label-read d k t c h = go (labelR (treeR d) (t, c)) refl h
     go : (x : Option (ℕ × List Tree)) → labelR (treeR d) (t, c) ≡ x → maybe false (λ l. ltb k (l .0)) x ≡ true → Label d k t c
     go none e h = let z : _≡_ {A = ℕ} 0 1 = cc in absurd (omega arith)
     go (some l) e h =
-        let u = name-content (treeR d) c l (tagged-some 7 (labelC (treeR d)) (t, c) l e .1) in
+        let u = name-content (treeR d) c l (tagged-some labelTag (labelC (treeR d)) (t, c) l e .1) in
         record { l = l; reads = e; name = u .0; rises = h; room = u .1 }
 
 labels-on : (d k : ℕ) (f : Bytes.Field) (fs : List Bytes.Field) (x : Option (ℕ × List Tree)) → labelR (treeR d) f ≡ x → maybe false (λ l. ltb k (l .0)) x ≡ false

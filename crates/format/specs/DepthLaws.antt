@@ -9,7 +9,7 @@ use borrow.Author.Tests.{le-leb, lt-leb, leb-true, leb-false, eqb-true, eqb-fals
 use Rattle.spec_trees.specs.Tree.{Root, void, boolean, integer, text, Tree, node, Trees, ε, _▹_, Labels, bare, label, labels}
 use Rattle.spec_trees.specs.Size.{rootSize, size, sizeA, sizeL, depth, depthA, depthL}
 use Rattle.spec_trees.specs.SizeLaws.{length-treeFs}
-use Rattle.spec_trees.specs.Bytes.{treeBytes}
+use Rattle.spec_trees.specs.Bytes.{treeBytes, labelTag}
 use Rattle.areas.specs.Area.{Is, fieldEnd}
 use Rattle.format.specs.Labels.{treesAt}
 use Rattle.format.specs.Stand.{treesBytes, labelsBytes, Says}
@@ -39,9 +39,10 @@ tree-level : (t : Tree) → 0 < depth t
 unfolding depth
 tree-level (node r ls) = omega arith
 
--- ---- a level takes 13 bytes or more: the heads of a tree, of its root, of a label and of its array, and the label;
--- the last
--- of them takes 6
+-- ---- the least bytes of a level: the heads of a tree and of its root, and a label; the last level has no label
+abbrev pub levelMin : ℕ
+levelMin = 6 + labelTag
+
 root-bytes : (r : Root) → 3 ≤ rootSize r
 unfolding rootSize
 root-bytes void = omega arith
@@ -52,14 +53,14 @@ root-bytes (text s) = omega arith
 mutual
   unfolding depth size
 
-  tree-bytes : (t : Tree) → 13 * depth t ≤ size t + 7
+  tree-bytes : (t : Tree) → levelMin * depth t ≤ size t + labelTag
   tree-bytes (node r ls) = omega (arith, root-bytes r, labels-bytes ls)
 
-  trees-bytes : (ts : Trees) → 13 * depthA ts ≤ sizeA ts + 7
+  trees-bytes : (ts : Trees) → levelMin * depthA ts ≤ sizeA ts + labelTag
   trees-bytes ε = omega arith
   trees-bytes (t ▹ ts) = omega (arith, tree-bytes t, trees-bytes ts)
 
-  labels-bytes : (ls : Labels) → 13 * depthL ls ≤ sizeL ls
+  labels-bytes : (ls : Labels) → levelMin * depthL ls ≤ sizeL ls
   labels-bytes bare = omega arith
   labels-bytes (label k a ls) = omega (arith, heads-least k, trees-bytes a, labels-bytes ls)
 
@@ -80,7 +81,7 @@ module _ (s : List ℕ) (left p e : ℕ) where
   labels-end q ls h = sym (ap (λ x. leb (depthL x) left) (labels-none ls q h) ∙ le-leb 0 left (omega arith))
 
   -- too few bytes for more levels than are left
-  pub trees-short : (e - p + 7) / 13 ≤ left → TreesSay s left p e true
+  pub trees-short : (e - p + labelTag) / levelMin ≤ left → TreesSay s left p e true
   trees-short q ts h = sym (le-leb (depthA ts) left (omega (arith, trees-bytes ts, h .ends, length-treeFs ts)))
 
   -- where no level is left there may be no tree

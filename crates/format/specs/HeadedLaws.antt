@@ -8,7 +8,7 @@ use lib.ListN.{length, take, set}
 use lib.Seq.{take-take}
 use Rattle.areas.specs.declared.area.Out.{Out}
 use Rattle.areas.specs.declared.area.Out.the-variants.{At, TooLarge}
-use Rattle.spec_trees.specs.Bytes.{fieldBytes, labelHeads, labelOf}
+use Rattle.spec_trees.specs.Bytes.{fieldBytes, labelTag, labelHeads, labelOf}
 use Rattle.areas.specs.Area.{Wrote, headBytes}
 use Rattle.areas.specs.AreaLaws.{failed, finish-at, wrote-none, wrote-before, byte-before}
 use Rattle.format.specs.Stand.{entryOf, Headed}
@@ -70,11 +70,11 @@ byte-wrote w d x b = byte-before x b (omega arith) (wrote-none w (d + 1) (d + 1)
 module _ {w w1 w2 w3 : List ℕ} {d k e : ℕ} {r : Out} (b : d + labelHeads k ≤ e) (l : e ≤ length w) (l2 : e ≤ length w2) (q : r ≡ At e)
     (h1 : Wrote w w1 (d + 4) (d + 4 + 3) (headBytes 1 (e - (d + 4 + 3))) (At (d + 4 + 3)))
     (h2 : Wrote w1 w2 (d + 3) (d + 3 + 1) (k ∷ []) (At (d + 3 + 1)))
-    (h3 : Wrote w2 w3 d (d + 3) (headBytes 7 (e - (d + 3))) (At (d + 3))) where
+    (h3 : Wrote w2 w3 d (d + 3) (headBytes labelTag (e - (d + 3))) (At (d + 3))) where
   pub headed-entry : Headed (entryOf k) (labelHeads k) w w3 d r (At e)
   unfolding labelHeads labelOf
   headed-entry =
       let a1 : Headed (λ c. fieldBytes (1, c)) 3 w w1 (d + 4) r (At e) = headed-field 1 (omega arith) l q h1 in
       let a2 : Headed (λ c. k ∷ c) 1 w1 w2 (d + 3) (At e) (At e) = headed-bytes (k ∷ []) 1 refl refl h2 in
-      let a3 : Headed (λ c. fieldBytes (7, c)) 3 w2 w3 d (At e) (At e) = headed-field 7 (omega arith) l2 refl h3 in
+      let a3 : Headed (λ c. fieldBytes (labelTag, c)) 3 w2 w3 d (At e) (At e) = headed-field labelTag (omega arith) l2 refl h3 in
       headed-seq {n = 4} refl refl (headed-seq {n = 3} (omega arith) refl a1 a2) a3

@@ -6,7 +6,7 @@ use Prim.Native.Nat.{ℕ, _+_, _-_, _≤_}
 use native.Mathlib.Omega.{arith}
 use lib.ListN.{length, getD, length-append}
 use Rattle.spec_trees.specs.Tree.{Tree, node, Trees, ε, _▹_, Labels, bare, label, root, labels}
-use Rattle.spec_trees.specs.Bytes.{Field, fieldBytes, bytes, rootF, treeF, treeFs, labelF, labelFs, treeBytes, labelHeads, labelOf}
+use Rattle.spec_trees.specs.Bytes.{Field, fieldBytes, bytes, rootF, treeF, treeFs, labelF, labelFs, treeBytes, labelTag, labelHeads, labelOf}
 use Rattle.spec_trees.specs.FieldLaws.{bytes-one}
 use Rattle.areas.specs.Area.{Is, fieldEnd}
 use Rattle.areas.specs.AreaLaws.{is-left, is-right, is-head, is-tag, is-content, is-field-end, length-field}
@@ -46,7 +46,7 @@ tree-parts {s} {p} {l} {e} (node r ls) g h =
     record { root-is = a .first-is; labels-is = a .rest-is; after = omega (arith, a .after); within = a .within }
 
 -- ---- the bytes before a label's trees: all that is known of their number elsewhere
-pub heads-least : (k : ℕ) → 7 ≤ labelHeads k
+pub heads-least : (k : ℕ) → labelTag ≤ labelHeads k
 unfolding labelHeads
 heads-least k = omega arith
 
@@ -170,7 +170,7 @@ module _ {s : List ℕ} {p e : ℕ} (h : Holds treeBytes s p e) where
 
 -- where the first label ends, its array, and the others
 module _ {s : List ℕ} {p e : ℕ} (h : Holds labelsBytes s p e) (n : p ≡ e → ⊥) where
-  pub labels-places : {m : ℕ} → m ≡ fieldEnd s p → (p + 7 ≤ m) × (m ≤ e) × (e ≤ length s)
+  pub labels-places : {m : ℕ} → m ≡ fieldEnd s p → (p + labelTag ≤ m) × (m ≤ e) × (e ≤ length s)
   labels-places g =
       let a = labels-parts (h .value) g n (h .value-is) in
       (omega (arith, a .entry .after, heads-least (a .key)), a .within, h .value-is .inside)

@@ -5,6 +5,7 @@
 //! still stand; it falls where a tree's labels are entered, so the walk ends however the bytes nest.
 use crate::head;
 use crate::head::Head;
+use crate::labels::TAG;
 use crate::labels::label_at;
 use crate::limits::Limits;
 use crate::view;
@@ -152,7 +153,7 @@ fn check_label(area: &[u8], tag: u8, field: Span, last: u16, left: usize) -> boo
     ensures { λ r. ⌜ r ≡ labelOk left last (tag, slice (field .from + 3) (field .to) (now (area .entry))) ⌝ }
 {
     let at = field.from;
-    if tag != 7 {
+    if tag != TAG {
         return false;
     }
     if field.to - at < 4 {

@@ -1,22 +1,25 @@
-//! How deep trees are, measured where they stand: a tree alone has depth 1, and those under a label are one deeper. A
-//! level takes 13 bytes or more, so that few bytes need no walk.
+//! How deep trees are, measured where they stand: a tree alone has depth 1, and those under a label are one deeper.
+//! Every level takes bytes, so that few bytes need no walk.
 ghost use lib.Dec.{leb};
 ghost use Rattle.spec_trees.specs.Size.{depthA, depthL};
 ghost use Rattle.format.specs.Stand.{treesBytes, labelsBytes, Holds, Says};
+use crate::labels::TAG;
 use crate::labels::trees_at;
 use areas::area::field_end;
 use areas::span::Span;
 
-/// The bytes of a level: the heads of a tree, of its root, of a label and of its array, and the label. The last level
-/// takes 7 bytes less.
-const LEVEL: usize = 13;
+/// The least bytes of a label: its heads and itself.
+const LABEL: usize = TAG as usize;
+
+/// The least bytes of a level: the heads of a tree and of its root, and a label. The last level has no label.
+const LEVEL: usize = 6 + LABEL;
 
 /// Whether the trees that stand at a place take at most `left` levels. Most have too few bytes for more.
 pub fn within_depth(area: &[u8], trees: Span, left: usize) -> bool
     requires { ⌜ Holds treesBytes (now area) (trees .from) (trees .to) ⌝ }
     ensures { λ r. ⌜ Says treesBytes (λ ts. leb (depthA ts) left) (now (area .entry)) (trees .from) (trees .to) r ⌝ }
 {
-    if (trees.to - trees.from + 7) / LEVEL <= left {
+    if (trees.to - trees.from + LABEL) / LEVEL <= left {
         return true;
     }
     trees_within(area, trees, left)
@@ -32,7 +35,7 @@ fn trees_within(area: &[u8], trees: Span, left: usize) -> bool
     if left == 0 {
         return at == end;
     }
-    if (end - at + 7) / LEVEL <= left {
+    if (end - at + LABEL) / LEVEL <= left {
         return true;
     }
     while at != end {

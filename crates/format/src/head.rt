@@ -2,6 +2,7 @@
 ghost use mathlib.Core.Path.{_≡_};
 ghost use Prim.Native.Nat.{_+_, _*_, _≤_, _<_};
 ghost use lib.ListN.{length};
+ghost use Rattle.areas.specs.Number.{twoLimit};
 ghost use Rattle.format.specs.Head.{headAt, lenAt, spanAt};
 use areas::number::two_at;
 
@@ -14,7 +15,7 @@ pub enum Head {
 /// The content length that the head at `at` gives.
 fn len_at(area: &[u8], at: usize) -> usize
     requires { ⌜ at + 3 ≤ length (now area) ⌝ }
-    ensures { λ r. ⌜ (r ≡ lenAt (now (area .entry)) at) × (r < 65536) ⌝ }
+    ensures { λ r. ⌜ (r ≡ lenAt (now (area .entry)) at) × (r < twoLimit) ⌝ }
 {
     two_at(area, at + 1)
 }

@@ -21,6 +21,10 @@ pub enum Found {
     Missing,
 }
 
+/// The tag of a label's field, which tells how many bytes stand before the label's trees: the field's head, the label,
+/// the head of its array.
+pub const TAG: u8 = 7;
+
 /// The label of the entry at `at`. Every label is read here, so that a label may one day take two bytes.
 pub fn label_at(area: &[u8], at: usize) -> u16
     requires { ⌜ at + 4 ≤ length (now area) ⌝ }
@@ -37,11 +41,11 @@ pub fn trees_at(area: &[u8], at: usize) -> usize
     at + wide(area[at])
 }
 
-/// How many bytes stand before the trees of a label: the entry's head, the label, the head of its array.
+/// How many bytes stand before the trees of a label.
 pub fn heads(label: u16) -> usize
     ensures { λ r. ⌜ r ≡ labelHeads label ⌝ }
 {
-    7
+    TAG as usize
 }
 
 /// Finds a label among the labels that stand at a place. The contract also says what stands before and behind its
@@ -81,6 +85,6 @@ pub fn entry(work: &mut [u8], at: usize, label: u16, written: Out) -> Out
     };
     put_head(work, at + 4, 1, end);
     put_label(work, at + 3, label);
-    put_head(work, at, 7, end);
+    put_head(work, at, TAG, end);
     Out::At(end)
 }

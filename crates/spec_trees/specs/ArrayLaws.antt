@@ -14,7 +14,7 @@ use Rattle.spec_trees.specs.Lists.{All, each}
 use Rattle.spec_trees.specs.Limits.{arrayMax, treeMax, depthMax, textMax}
 use Rattle.spec_trees.specs.Tree.{Root, void, boolean, integer, text, Tree, node, Trees, ε, _▹_, Labels, bare, label, list, isLabel}
 use Rattle.spec_trees.specs.Size.{depth, depthA, depthL, size, sizeA, sizeL, arraySize}
-use Rattle.spec_trees.specs.Bytes.{labelF, labelHeads, labelOf, Field, fieldBytes, bytes, big, rootF, treeF, treeFs, labelFs, arrayF, arrayBytes}
+use Rattle.spec_trees.specs.Bytes.{labelF, labelTag, labelHeads, labelOf, Field, fieldBytes, bytes, big, rootF, treeF, treeFs, labelFs, arrayF, arrayBytes}
 use Rattle.spec_trees.specs.Readers.{Reader, fields, inside, one, chosen, among, tagged, emptied, bigValue, accepted, malformed, overlong}
 use Rattle.spec_trees.specs.Decode.{signed, bit, rootTable, rootR, arrayWith, labelC, labelR, labelsWith, treeC, treeR, arrayR, decodeArray, readArray}
 use Rattle.spec_trees.specs.Within.{AllBytes, OkR, Ok, OkA, OkL, Allowed, AllowedA, Within}
@@ -102,16 +102,16 @@ module _ {P : Tree → Type 0} {r : Reader Tree} (L : Law r treeF P) where
   label-form : (f : Field) (l : ℕ × List Tree) → AllBytes (f .1) → labelR r f ≡ some l → (entryF l ≡ f) × (T (isLabel (l .0)) × All P (l .1))
   unfolding entryF labelF labelHeads labelOf labelR
   label-form f l h e =
-      let u = tagged-some 7 (labelC r) f l e in
+      let u = tagged-some labelTag (labelC r) f l e in
       let w = content-form (f .1) l h (u .1) in
-      (field-eq f 7 _ (u .0) (w .0), (w .1, w .2))
+      (field-eq f labelTag _ (u .0) (w .0), (w .1, w .2))
 
   labels-back : (ls : Labels) (k : ℕ) → Above P k ls → labelsWith r k (labelFs ls) ≡ some ls
   unfolding labelsWith treeF _>>=_ only entryF labelF labelHeads labelOf arrayF
   labels-back bare k o = refl
   labels-back (label j a ls) k o =
       let e = label-back (j, list a) (o .1, o .2) in
-      let e′ : labelR r (7, j ∷ fieldBytes (1, bytes (treeFs a))) ≡ some (j, list a) = rw trees-list at e in
+      let e′ : labelR r (labelTag, j ∷ fieldBytes (1, bytes (treeFs a))) ≡ some (j, list a) = rw trees-list at e in
       rw (e′, ltb-yes k j (o .0), labels-back ls j (o .3), trees-list) refl
 
   labels-form : (fs : List Field) (k : ℕ) (ls : Labels) → BytesF fs → labelsWith r k fs ≡ some ls → (labelFs ls ≡ fs) × Above P k ls

@@ -42,10 +42,13 @@ rootF (text s) = (6, s)
 
 -- ---- a label's field
 
--- how many bytes stand before the trees of the label k: the field's head, the label, the head of its array. This is the
--- field's tag, too
+-- its tag, which tells how many bytes stand before the label's trees: the field's head, the label, the head of its array
+abbrev pub labelTag : ℕ
+labelTag = 7
+
+-- the tag for the label k
 unfoldable pub labelHeads : ℕ → ℕ
-labelHeads k = 7
+labelHeads k = labelTag
 
 -- the label's bytes
 unfoldable pub labelOf : ℕ → List ℕ

@@ -10,7 +10,7 @@ use Rattle.spec_trees.specs.Options.{_>>=_, only}
 use Rattle.spec_trees.specs.Lists.{each}
 use Rattle.spec_trees.specs.Limits.{arrayMax, treeMax, depthMax, textMax}
 use Rattle.spec_trees.specs.Tree.{Root, void, boolean, integer, text, Tree, node, Labels, bare, label, trees, isLabel}
-use Rattle.spec_trees.specs.Bytes.{Field}
+use Rattle.spec_trees.specs.Bytes.{Field, labelTag}
 use Rattle.spec_trees.specs.Readers.{Reader, Table, inside, one, among, tagged, emptied, bigValue, Tested, tested}
 
 -- ---- roots
@@ -44,7 +44,7 @@ labelC r [] = none
 labelC r (k ∷ b) = only (isLabel k) (inside (one (λ a. (k, a)) (arrayWith r)) b)
 
 unfoldable pub labelR : Reader Tree → Reader (ℕ × List Tree)
-labelR r = tagged 7 (labelC r)
+labelR r = tagged labelTag (labelC r)
 
 -- rising labels, all above k
 unfoldable pub labelsWith : Reader Tree → ℕ → List Field → Option Labels

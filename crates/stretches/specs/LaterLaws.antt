@@ -273,6 +273,12 @@ module _ {q : List ℕ} {p : Span} {r : Next} (k : NextPost q p r) where
               (c (next-state ss us d ts) (part ss us d .others) us (shown st ss us h a d)
               (next-allows ss us d ts (held-allowed st h a) (held-short st h)) (planned-of ss us d))
 
+-- after some stretches: what those that are left come to is what all come to
+pub record LaterGoing (w₀ q : List ℕ) (p₀ : Span) (j : List ℕ) (s₀ : Collector) (w : List ℕ) (s : Collector) (p : Span) : Type 0 where
+  pub same : length w ≡ length w₀
+  pub ready : LaterReady w q p j s
+  pub whole : {v : List ℕ} {r : Ended} → LaterPost w v q p j s r → LaterPost w₀ v q p₀ j s₀ r
+
 -- ---- the collected array is moved to the front
 module _ {w : List ℕ} {n : ℕ} {q : List ℕ} {at : StretchAt} {j : List ℕ} (r : HeldReady w n q at j) where
   pub held-bounds : (n ≤ treesMax) × (groupMin ≤ length w)

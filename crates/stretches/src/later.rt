@@ -50,16 +50,20 @@ pub fn later<'a>(
     requires { ⌜ LaterReady (now work) (now query) stages (now joined) collector ⌝ }
     ensures { λ r. ⌜ LaterPost (now (work .entry)) (now (work .exit)) (now (query .entry)) stages (now (joined .entry)) collector r ⌝ }
 {
-    let next = next_group(query, stages);
-    let Next::Group(at) = next else {
-        return last(collector);
-    };
-    match collector {
-        Collector::Len(n) => {
-            let r = next_stretch(work, n, query, at, joined);
-            later(work, query, at.next, joined, r)
+    let mut held = collector;
+    let mut rest = stages;
+    loop {
+        let next = next_group(query, rest);
+        let Next::Group(at) = next else {
+            return last(held);
+        };
+        match held {
+            Collector::Len(n) => {
+                held = next_stretch(work, n, query, at, joined);
+                rest = at.next;
+            }
+            Collector::Over => return Ended::Long,
+            Collector::Large => return Ended::Large,
         }
-        Collector::Over => Ended::Long,
-        Collector::Large => Ended::Large,
     }
 }

@@ -4,10 +4,11 @@ mod respond;
 mod split;
 mod text;
 
+use crate::respond::READ;
 use crate::respond::respond;
 
 fn main() {
-    let mut input = [0u8; 65536];
+    let mut input = [0u8; READ];
     let n = io::read_full(0, &mut input);
     let mut text = [0u8; 32800];
     let end = respond(&input[..n], &mut text);

@@ -9,7 +9,11 @@ use crate::text::write_hex;
 use crate::text::write_refused;
 use engine::answer::refusal_number;
 use engine::run::run;
+use format::limits::Limits;
 use spec_run::answer::Answer;
+
+/// How many bytes the program reads of an input at most.
+pub const READ: usize = 65536;
 
 /// Writes an answer as text at the start of an area: where the text ends.
 fn write_answer(a: Answer, result: &[u8], text: &mut [u8]) -> usize
@@ -22,11 +26,11 @@ fn write_answer(a: Answer, result: &[u8], text: &mut [u8]) -> usize
     }
 }
 
-/// The bytes that the program reads of an input: the first 65,536, or all.
+/// The bytes that the program reads of an input.
 fn read_part(s: &[u8]) -> &[u8]
     ensures { λ r. ⌜ now r ≡ take programMax (now (s .entry)) ⌝ }
 {
-    if 65536 < s.len() { &s[..65536] } else { s }
+    if READ < s.len() { &s[..READ] } else { s }
 }
 
 /// Answers what is read of an input in these areas: the query and then the input, each as long as its head says or
@@ -47,7 +51,7 @@ fn respond_in(s: &[u8], work: &mut [u8], result: &mut [u8], text: &mut [u8]) -> 
 pub fn respond(s: &[u8], text: &mut [u8; 32800]) -> usize
     ensures { λ r. ⌜ Begins (now (text .exit)) (program (now (s .entry))) r ⌝ }
 {
-    let mut work = [0u8; 65536];
-    let mut result = [0u8; 16384];
+    let mut work = [0u8; Limits::WORK];
+    let mut result = [0u8; Limits::ARRAY];
     respond_in(read_part(s), &mut work, &mut result, text)
 }

@@ -2,13 +2,14 @@
 ghost use mathlib.Core.Path.{_≡_};
 ghost use Prim.Native.Nat.{_≤_};
 ghost use lib.ListN.{length};
+ghost use Rattle.spec_run.specs.Program.{programMax};
 ghost use Rattle.tquery_cli.specs.Split.{pieceEnd};
 use areas::number::wide;
 
 /// Where the piece that begins at `from` ends: as long as its head says, or what is left. Fewer than three bytes have
 /// no head, and are all that is left.
 pub fn piece_end(s: &[u8], from: usize) -> usize
-    requires { ⌜ (from ≤ length (now s)) × (length (now s) ≤ 65536) ⌝ }
+    requires { ⌜ (from ≤ length (now s)) × (length (now s) ≤ programMax) ⌝ }
     ensures { λ r. ⌜ r ≡ pieceEnd (now (s .entry)) from ⌝ }
 {
     if s.len() < from + 3 {

@@ -25,7 +25,7 @@ use std::process::ExitCode;
 
 /// No call may use more, in bytes: its four arguments on the stack and its
 /// return address included. `TQUERY_STACK_MAX` of `include/tquery.h`.
-const BOUND: usize = 11_264;
+const BOUND: usize = 10_240;
 
 /// No more bytes of a record may stay behind together: one, where a register
 /// that had held it was saved.

@@ -1,10 +1,10 @@
 //! Cases that go as deep as the limits allow.
 //!
-//! A call of the engine goes deeper with each group behind a group, each stage
-//! behind a stage, each level of criteria and data, each label of a path and
-//! each level of a tree. So the cases have some groups, then stages of one
-//! kind, then a last stage that goes deep in its own way, eight in all, over a
-//! tree of depth 16. Behind them stand cases that nest far past the limits,
+//! A call of the engine goes deeper with each stage behind a stage, unless one
+//! of them is a group, with each level of criteria and data, each label of a
+//! path and each level of a tree. So the cases have some groups, then stages of
+//! one kind, then a last stage that goes deep in its own way, eight in all, over
+//! a tree of depth 16. Behind them stand cases that nest far past the limits,
 //! for the checks.
 
 use crate::left::Contents;
