@@ -58,90 +58,90 @@ pub enum Check {
 }
 
 /// The byte that fills the result area beyond the result, by the number: a refusal from 8 on clears the whole area.
-fn rest_byte(n: u64) -> u8 {
-    if n < 8 { 187 } else { 0 }
+fn rest_byte(number: u64) -> u8 {
+    if number < 8 { 187 } else { 0 }
 }
 
 /// The byte that fills the work area after the run, by the number: only refusal 1 leaves the area as it was.
-fn work_byte(n: u64) -> u8 {
-    if n == 1 { 170 } else { 0 }
+fn work_byte(number: u64) -> u8 {
+    if number == 1 { 170 } else { 0 }
 }
 
-/// Compares the areas after a run whose number n and whose length are as expected.
-fn areas(n: u64, expected: &[u8], work: &[u8], result: &[u8]) -> Verdict {
+/// Compares the areas after a run whose number and length are as expected.
+fn areas(number: u64, expected: &[u8], work: &[u8], result: &[u8]) -> Verdict {
     if !same_bytes(front(result, expected.len()), expected) {
         return Verdict::Result;
     }
-    if !each_is(behind(result, expected.len()), rest_byte(n)) {
+    if !each_is(behind(result, expected.len()), rest_byte(number)) {
         return Verdict::Rest;
     }
-    if !each_is(work, work_byte(n)) {
+    if !each_is(work, work_byte(number)) {
         return Verdict::Work;
     }
     Verdict::Agrees
 }
 
-/// Compares an answer with the number n and the result that are expected.
-fn answered(a: Answer, n: u64, expected: &[u8], work: &[u8], result: &[u8]) -> Verdict {
-    if number(a) != n {
+/// Compares an answer with the number and the result that are expected.
+fn answered(answer: Answer, wanted: u64, expected: &[u8], work: &[u8], result: &[u8]) -> Verdict {
+    if number(answer) != wanted {
         return Verdict::Number;
     }
-    if length(a) != expected.len() {
+    if length(answer) != expected.len() {
         return Verdict::Length;
     }
-    areas(n, expected, work, result)
+    areas(wanted, expected, work, result)
 }
 
 /// Runs a case in areas that have the lengths that it asks for.
-fn compare_in(bytes: &[u8], c: Case, work: &mut [u8], result: &mut [u8]) -> Verdict {
-    let a = run(
-        front(bytes, c.query_end),
-        part(bytes, c.query_end, c.input_end),
-        part(bytes, c.input_end, c.joined_end),
+fn compare_in(bytes: &[u8], case: Case, work: &mut [u8], result: &mut [u8]) -> Verdict {
+    let answer = run(
+        front(bytes, case.query_end),
+        part(bytes, case.query_end, case.input_end),
+        part(bytes, case.input_end, case.joined_end),
         work,
         result,
     );
     answered(
-        a,
-        c.number,
-        part(bytes, c.joined_end, c.result_end),
+        answer,
+        case.number,
+        part(bytes, case.joined_end, case.result_end),
         work,
         result,
     )
 }
 
 /// Runs a case, whose parts stand in `bytes`, and compares it with what is expected.
-pub fn compare(bytes: &[u8], c: Case) -> Verdict {
+pub fn compare(bytes: &[u8], case: Case) -> Verdict {
     let mut work = [170u8; WORK];
     let mut result = [187u8; ROOM];
-    let w = c.work;
-    let r = c.room;
+    let w = case.work;
+    let r = case.room;
     if WORK < w {
         return Verdict::Malformed;
     }
     if ROOM < r {
         return Verdict::Malformed;
     }
-    compare_in(bytes, c, &mut work[..w], &mut result[..r])
+    compare_in(bytes, case, &mut work[..w], &mut result[..r])
 }
 
 /// The number of a check.
-fn number_of_check(c: Check, bytes: &[u8]) -> u64 {
-    match c {
+fn number_of_check(check: Check, bytes: &[u8]) -> u64 {
+    match check {
         Check::Array => {
-            let c = check_array(bytes);
-            check_number(c, Refusal::InputLong, Refusal::InputMalformed)
+            let checked = check_array(bytes);
+            check_number(checked, Refusal::InputLong, Refusal::InputMalformed)
         }
         Check::Query => {
-            let c = check_query(bytes);
-            check_number(c, Refusal::QueryLong, Refusal::QueryMalformed)
+            let checked = check_query(bytes);
+            check_number(checked, Refusal::QueryLong, Refusal::QueryMalformed)
         }
     }
 }
 
 /// Checks bytes, and compares the number with the one that is expected.
-pub fn compare_check(c: Check, bytes: &[u8], n: u64) -> Verdict {
-    if number_of_check(c, bytes) == n {
+pub fn compare_check(check: Check, bytes: &[u8], wanted: u64) -> Verdict {
+    if number_of_check(check, bytes) == wanted {
         return Verdict::Agrees;
     }
     Verdict::Number

@@ -2,8 +2,8 @@
 use crate::compare::Verdict;
 
 /// Writes what a verdict says.
-pub fn say_verdict(v: Verdict) {
-    match v {
+pub fn say_verdict(verdict: Verdict) {
+    match verdict {
         Verdict::Agrees => io::write_all(1, b"agrees"),
         Verdict::Number => io::write_all(1, b"number differs"),
         Verdict::Length => io::write_all(1, b"length differs"),

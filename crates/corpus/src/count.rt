@@ -7,29 +7,29 @@ use cases::report::say_total;
 use cases::report::say_verdict;
 
 /// The line of a case that differs.
-fn say_differs(case: u64, v: Verdict) {
+fn say_differs(case: u64, verdict: Verdict) {
     io::print_decimal(1, case);
     io::write_all(1, b": ");
-    say_verdict(v);
+    say_verdict(verdict);
     io::write_all(1, b"\n");
 }
 
 /// 1 for a case that agrees, 0 for one that differs: of these the first is reported.
-fn counted(v: Verdict, case: u64, is_first: bool) -> u64
+fn counted(verdict: Verdict, case: u64, is_first: bool) -> u64
     ensures { λ r. ⌜ r ≤ 1 ⌝ }
 {
-    if let Verdict::Agrees = v {
+    if let Verdict::Agrees = verdict {
         return 1;
     }
     if is_first {
-        say_differs(case, v);
+        say_differs(case, verdict);
     }
     0
 }
 
 /// The end of the reading, where case `case` would have been: if the input did not end there, that is reported.
-fn end(t: Turn, case: u64) {
-    if let Turn::Malformed = t {
+fn end(turn: Turn, case: u64) {
+    if let Turn::Malformed = turn {
         io::write_all(1, b"malformed record ");
         io::print_decimal(1, case);
         io::write_all(1, b"\n");

@@ -24,17 +24,17 @@ pub fn read_number(width: usize) -> Part
     Part::Whole((wide(b[0]) * 256 + wide(b[1])) * 256 + wide(b[2]))
 }
 
-/// Reads n bytes to a place of a buffer: where they end.
-fn read_bytes(n: usize, buffer: &mut [u8], from: usize) -> Part {
+/// Reads `count` bytes to a place of a buffer: where they end.
+fn read_bytes(count: usize, buffer: &mut [u8], from: usize) -> Part {
     if buffer.len() < from {
         return Part::Cut;
     }
-    if buffer.len() - from < n {
+    if buffer.len() - from < count {
         return Part::Cut;
     }
-    let to = from + n;
+    let to = from + count;
     let got = io::read_full(0, &mut buffer[from..to]);
-    if got < n {
+    if got < count {
         return Part::Cut;
     }
     Part::Whole(to)

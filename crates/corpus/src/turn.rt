@@ -16,34 +16,34 @@ pub enum Turn {
 /// The room for the parts of a record.
 const PARTS: usize = 65536;
 
-/// Reads what is behind a query that ends at q, and runs the case.
-fn behind_query(q: usize, bytes: &mut [u8]) -> Turn {
-    let Part::Whole(i) = read_part(bytes, q) else {
+/// Reads what is behind a query that ends at `query_end`, and runs the case.
+fn behind_query(query_end: usize, bytes: &mut [u8]) -> Turn {
+    let Part::Whole(input_end) = read_part(bytes, query_end) else {
         return Turn::Malformed;
     };
-    let Part::Whole(j) = read_part(bytes, i) else {
+    let Part::Whole(joined_end) = read_part(bytes, input_end) else {
         return Turn::Malformed;
     };
-    let Part::Whole(w) = read_number(3) else {
+    let Part::Whole(work) = read_number(3) else {
         return Turn::Malformed;
     };
-    let Part::Whole(r) = read_number(2) else {
+    let Part::Whole(room) = read_number(2) else {
         return Turn::Malformed;
     };
-    let Part::Whole(n) = read_number(1) else {
+    let Part::Whole(number) = read_number(1) else {
         return Turn::Malformed;
     };
-    let Part::Whole(e) = read_part(bytes, j) else {
+    let Part::Whole(result_end) = read_part(bytes, joined_end) else {
         return Turn::Malformed;
     };
     let c = Case {
-        query_end: q,
-        input_end: i,
-        joined_end: j,
-        result_end: e,
-        work: w,
-        room: r,
-        number: n as u64,
+        query_end,
+        input_end,
+        joined_end,
+        result_end,
+        work,
+        room,
+        number: number as u64,
     };
     Turn::Compared(compare(bytes, c))
 }

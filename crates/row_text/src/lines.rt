@@ -7,32 +7,32 @@ use crate::parts::front;
 use areas::compare::same_bytes;
 
 /// The byte at a place. Behind the end a line feed, so that a last line that has none ends too.
-pub fn byte_at(t: &[u8], at: usize) -> u8 {
-    if at < t.len() { t[at] } else { b'\n' }
+pub fn byte_at(text: &[u8], at: usize) -> u8 {
+    if at < text.len() { text[at] } else { b'\n' }
 }
 
 /// Whether the text begins with these bytes.
-pub fn begins(t: &[u8], word: &[u8]) -> bool {
-    same_bytes(front(t, word.len()), word)
+pub fn begins(text: &[u8], word: &[u8]) -> bool {
+    same_bytes(front(text, word.len()), word)
 }
 
-/// The place n bytes further, or the end.
-pub fn further(t: &[u8], at: usize, n: usize) -> usize {
-    if at < t.len() {
-        if n < t.len() - at {
-            return at + n;
+/// The place `count` bytes further, or the end.
+pub fn further(text: &[u8], at: usize, count: usize) -> usize {
+    if at < text.len() {
+        if count < text.len() - at {
+            return at + count;
         }
     }
-    t.len()
+    text.len()
 }
 
 /// Where the line that a place is in ends: at its line feed, or at the end of the text.
-pub fn line_end(t: &[u8], from: usize) -> usize
+pub fn line_end(text: &[u8], from: usize) -> usize
     ensures { λ r. ⌜ from ≤ r ⌝ }
 {
     let mut at = from;
-    while at < t.len() {
-        if t[at] == b'\n' {
+    while at < text.len() {
+        if text[at] == b'\n' {
             return at;
         }
         at += 1;
@@ -41,11 +41,11 @@ pub fn line_end(t: &[u8], from: usize) -> usize
 }
 
 /// Where the next line begins.
-pub fn next_line(t: &[u8], from: usize) -> usize
-    ensures { λ r. ⌜ (from < length (now (t .entry)) → from < r) ⌝ }
+pub fn next_line(text: &[u8], from: usize) -> usize
+    ensures { λ r. ⌜ (from < length (now (text .entry)) → from < r) ⌝ }
 {
-    let end = line_end(t, from);
-    if end < t.len() { end + 1 } else { end }
+    let end = line_end(text, from);
+    if end < text.len() { end + 1 } else { end }
 }
 
 /// What a line is looked for by.
@@ -59,25 +59,25 @@ pub enum Kind {
 }
 
 /// Whether the text begins with a line of that kind.
-fn begins_with(t: &[u8], k: Kind) -> bool {
-    let first = byte_at(t, 0);
-    match k {
+fn begins_with(text: &[u8], kind: Kind) -> bool {
+    let first = byte_at(text, 0);
+    match kind {
         Kind::Telling => first != b'\n' && first != b'#',
         Kind::Fresh => first != b' ',
-        Kind::Row => begins(t, b"row "),
+        Kind::Row => begins(text, b"row "),
     }
 }
 
 /// Where the first line of that kind begins, from a line on; or the end.
-pub fn find_line(t: &[u8], from: usize, k: Kind) -> usize
+pub fn find_line(text: &[u8], from: usize, kind: Kind) -> usize
     ensures { λ r. ⌜ from ≤ r ⌝ }
 {
     let mut at = from;
-    while at < t.len() {
-        if begins_with(behind(t, at), k) {
+    while at < text.len() {
+        if begins_with(behind(text, at), kind) {
             return at;
         }
-        at = next_line(t, at);
+        at = next_line(text, at);
     }
     at
 }

@@ -18,9 +18,9 @@ struct Spot {
 }
 
 /// One more byte at `at`, where there is room; the place behind it.
-fn put(b: &mut [u8], at: usize, x: u8) -> usize {
-    if at < b.len() {
-        b[at] = x;
+fn put(bytes: &mut [u8], at: usize, byte: u8) -> usize {
+    if at < bytes.len() {
+        bytes[at] = byte;
         at + 1
     } else {
         at
@@ -28,18 +28,18 @@ fn put(b: &mut [u8], at: usize, x: u8) -> usize {
 }
 
 /// The value of a digit, also a hexadecimal one; 16 for any other byte.
-fn digit(c: u8) -> u8 {
-    match c {
-        b'0'..=b'9' => c - 48,
-        b'a'..=b'f' => c - 87,
+fn digit(character: u8) -> u8 {
+    match character {
+        b'0'..=b'9' => character - 48,
+        b'a'..=b'f' => character - 87,
         _ => 16,
     }
 }
 
 /// A number with one more digit, or ten million where it has seven already: more than any length here.
-fn longer(value: usize, d: u8) -> usize {
+fn longer(value: usize, digit: u8) -> usize {
     if value < 1000000 {
-        value * 10 + d as usize
+        value * 10 + digit as usize
     } else {
         10000000
     }
@@ -52,11 +52,11 @@ pub struct Numeral {
 }
 
 /// The decimal number at a place: 0, and the same place, where there is none.
-pub fn decimal(t: &[u8], from: usize) -> Numeral {
+pub fn decimal(text: &[u8], from: usize) -> Numeral {
     let mut value = 0;
     let mut at = from;
-    while at < t.len() {
-        let d = digit(t[at]);
+    while at < text.len() {
+        let d = digit(text[at]);
         if 9 < d {
             return Numeral { value, next: at };
         }
@@ -67,122 +67,122 @@ pub fn decimal(t: &[u8], from: usize) -> Numeral {
 }
 
 /// A byte.
-fn byte(t: &[u8], s: Spot, b: &mut [u8]) -> Spot {
-    let low = further(t, s.at, 1);
-    let x = digit(byte_at(t, s.at));
-    let y = digit(byte_at(t, low));
+fn byte(text: &[u8], spot: Spot, bytes: &mut [u8]) -> Spot {
+    let low = further(text, spot.at, 1);
+    let x = digit(byte_at(text, spot.at));
+    let y = digit(byte_at(text, low));
     if 15 < x {
-        return s;
+        return spot;
     }
     if 15 < y {
-        return s;
+        return spot;
     }
     Spot {
-        at: further(t, s.at, 2),
-        end: put(b, s.end, x * 16 + y),
-        item: s.end,
-        group: s.group,
-        open: s.open,
+        at: further(text, spot.at, 2),
+        end: put(bytes, spot.end, x * 16 + y),
+        item: spot.end,
+        group: spot.group,
+        open: spot.open,
     }
 }
 
 /// The start of a group.
-fn opened(t: &[u8], s: Spot) -> Spot {
-    if s.open {
-        return s;
+fn opened(text: &[u8], spot: Spot) -> Spot {
+    if spot.open {
+        return spot;
     }
     Spot {
-        at: further(t, s.at, 1),
-        end: s.end,
-        item: s.end,
-        group: s.end,
+        at: further(text, spot.at, 1),
+        end: spot.end,
+        item: spot.end,
+        group: spot.end,
         open: true,
     }
 }
 
 /// The end of a group.
-fn closed(t: &[u8], s: Spot) -> Spot {
-    if !s.open {
-        return s;
+fn closed(text: &[u8], spot: Spot) -> Spot {
+    if !spot.open {
+        return spot;
     }
     Spot {
-        at: further(t, s.at, 1),
-        end: s.end,
-        item: s.group,
-        group: s.group,
+        at: further(text, spot.at, 1),
+        end: spot.end,
+        item: spot.group,
+        group: spot.group,
         open: false,
     }
 }
 
 /// The bytes from one place to another, written once more at `end`; the place behind them.
-fn again(b: &mut [u8], from: usize, to: usize, end: usize) -> usize {
+fn again(bytes: &mut [u8], from: usize, to: usize, end: usize) -> usize {
     let mut at = end;
     let mut i = from;
     while i < to {
-        let x = byte_at(b, i);
-        at = put(b, at, x);
+        let x = byte_at(bytes, i);
+        at = put(bytes, at, x);
         i += 1;
     }
     at
 }
 
 /// The bytes from one place to another, so many times; the place behind them.
-fn repeated(b: &mut [u8], from: usize, to: usize, times: usize) -> usize {
+fn repeated(bytes: &mut [u8], from: usize, to: usize, times: usize) -> usize {
     let mut at = from;
     let mut i = 0;
     while i < times {
-        at = again(b, from, to, at);
+        at = again(bytes, from, to, at);
         i += 1;
     }
     at
 }
 
 /// A `*` and a number: what stands before it, so many times. It does not repeat another `*`.
-fn star(t: &[u8], s: Spot, b: &mut [u8]) -> Spot {
-    let from = further(t, s.at, 1);
-    let n = decimal(t, from);
+fn star(text: &[u8], spot: Spot, bytes: &mut [u8]) -> Spot {
+    let from = further(text, spot.at, 1);
+    let n = decimal(text, from);
     if n.next == from {
-        return s;
+        return spot;
     }
-    if s.item == s.end {
-        return s;
+    if spot.item == spot.end {
+        return spot;
     }
-    let end = repeated(b, s.item, s.end, n.value);
+    let end = repeated(bytes, spot.item, spot.end, n.value);
     Spot {
         at: n.next,
         end,
         item: end,
-        group: s.group,
-        open: s.open,
+        group: spot.group,
+        open: spot.open,
     }
 }
 
 /// A space.
-fn space(t: &[u8], s: Spot) -> Spot {
+fn space(text: &[u8], spot: Spot) -> Spot {
     Spot {
-        at: further(t, s.at, 1),
-        end: s.end,
-        item: s.item,
-        group: s.group,
-        open: s.open,
+        at: further(text, spot.at, 1),
+        end: spot.end,
+        item: spot.item,
+        group: spot.group,
+        open: spot.open,
     }
 }
 
 /// What stands at the place.
-fn step(t: &[u8], s: Spot, b: &mut [u8]) -> Spot {
-    let c = byte_at(t, s.at);
+fn step(text: &[u8], spot: Spot, bytes: &mut [u8]) -> Spot {
+    let c = byte_at(text, spot.at);
     match c {
-        b' ' | b'\n' => space(t, s),
-        b'(' => opened(t, s),
-        b')' => closed(t, s),
-        b'*' => star(t, s, b),
-        _ => byte(t, s, b),
+        b' ' | b'\n' => space(text, spot),
+        b'(' => opened(text, spot),
+        b')' => closed(text, spot),
+        b'*' => star(text, spot, bytes),
+        _ => byte(text, spot, bytes),
     }
 }
 
 /// The whole text. Behind its end a step finds a line feed, and stays there.
-fn steps(t: &[u8], b: &mut [u8], from: usize) -> Spot {
-    let mut s = Spot {
+fn steps(text: &[u8], bytes: &mut [u8], from: usize) -> Spot {
+    let mut spot = Spot {
         at: 0,
         end: from,
         item: from,
@@ -190,11 +190,11 @@ fn steps(t: &[u8], b: &mut [u8], from: usize) -> Spot {
         open: false,
     };
     let mut i = 0;
-    while i < t.len() {
-        s = step(t, s, b);
+    while i < text.len() {
+        spot = step(text, spot, bytes);
         i += 1;
     }
-    s
+    spot
 }
 
 /// Where the bytes end, and whether the text says some and there is room for them.
@@ -205,9 +205,16 @@ pub struct Written {
 
 /// Writes the bytes that a text says to a buffer, from a place on. They may not fill it to its end: so it is seen
 /// where it has no room for them.
-pub fn write(t: &[u8], b: &mut [u8], from: usize) -> Written {
-    let first = byte_at(t, 0);
-    let s = steps(t, b, from);
-    let sound = first != b' ' && first != b'\n' && s.at == t.len() && !s.open && s.end < b.len();
-    Written { end: s.end, sound }
+pub fn write(text: &[u8], bytes: &mut [u8], from: usize) -> Written {
+    let first = byte_at(text, 0);
+    let spot = steps(text, bytes, from);
+    let sound = first != b' '
+        && first != b'\n'
+        && spot.at == text.len()
+        && !spot.open
+        && spot.end < bytes.len();
+    Written {
+        end: spot.end,
+        sound,
+    }
 }

@@ -1,25 +1,33 @@
 //! Parts of bytes and tests on bytes, for any numbers: nothing is asked of the caller.
 
-/// The first n bytes, or all if there are fewer.
-pub fn front(b: &[u8], n: usize) -> &[u8] {
-    if n <= b.len() { &b[..n] } else { b }
+/// The first `count` bytes, or all if there are fewer.
+pub fn front(bytes: &[u8], count: usize) -> &[u8] {
+    if count <= bytes.len() {
+        &bytes[..count]
+    } else {
+        bytes
+    }
 }
 
-/// What is behind the first n bytes.
-pub fn behind(b: &[u8], n: usize) -> &[u8] {
-    if n <= b.len() { &b[n..] } else { &b[b.len()..] }
+/// What is behind the first `count` bytes.
+pub fn behind(bytes: &[u8], count: usize) -> &[u8] {
+    if count <= bytes.len() {
+        &bytes[count..]
+    } else {
+        &bytes[bytes.len()..]
+    }
 }
 
 /// The bytes from one place to another.
-pub fn part(b: &[u8], from: usize, to: usize) -> &[u8] {
-    behind(front(b, to), from)
+pub fn part(bytes: &[u8], from: usize, to: usize) -> &[u8] {
+    behind(front(bytes, to), from)
 }
 
-/// Whether each byte is x.
-pub fn each_is(b: &[u8], x: u8) -> bool {
+/// Whether each byte is `byte`.
+pub fn each_is(bytes: &[u8], byte: u8) -> bool {
     let mut i = 0;
-    while i < b.len() {
-        if b[i] != x {
+    while i < bytes.len() {
+        if bytes[i] != byte {
             return false;
         }
         i += 1;

@@ -23,77 +23,77 @@ pub struct Place {
 }
 
 /// Something is not as it should be.
-fn unsound(p: Place) -> Place {
+fn unsound(place: Place) -> Place {
     Place {
-        at: p.at,
-        end: p.end,
-        value: p.value,
+        at: place.at,
+        end: place.end,
+        value: place.value,
         sound: false,
     }
 }
 
 /// Goes on to another place in the row.
-fn moved(p: Place, at: usize) -> Place {
+fn moved(place: Place, at: usize) -> Place {
     Place {
         at,
-        end: p.end,
-        value: p.value,
-        sound: p.sound,
+        end: place.end,
+        value: place.value,
+        sound: place.sound,
     }
 }
 
 /// The word with which the next line that says something begins.
-pub fn word(row: &[u8], p: Place, w: &[u8]) -> Place {
-    let at = find_line(row, p.at, Kind::Telling);
-    if !begins(behind(row, at), w) {
-        return unsound(p);
+pub fn word(row: &[u8], place: Place, wanted: &[u8]) -> Place {
+    let at = find_line(row, place.at, Kind::Telling);
+    if !begins(behind(row, at), wanted) {
+        return unsound(place);
     }
-    moved(p, further(row, at, w.len()))
+    moved(place, further(row, at, wanted.len()))
 }
 
 /// A space and a decimal number.
-pub fn number(row: &[u8], p: Place) -> Place {
-    let from = further(row, p.at, 1);
+pub fn number(row: &[u8], place: Place) -> Place {
+    let from = further(row, place.at, 1);
     let n = decimal(row, from);
-    if byte_at(row, p.at) != b' ' {
-        return unsound(p);
+    if byte_at(row, place.at) != b' ' {
+        return unsound(place);
     }
     if n.next == from {
-        return unsound(p);
+        return unsound(place);
     }
     Place {
         at: n.next,
-        end: p.end,
+        end: place.end,
         value: n.value,
-        sound: p.sound,
+        sound: place.sound,
     }
 }
 
 /// The end of a line.
-pub fn line_feed(row: &[u8], p: Place) -> Place {
-    if byte_at(row, p.at) != b'\n' {
-        return unsound(p);
+pub fn line_feed(row: &[u8], place: Place) -> Place {
+    if byte_at(row, place.at) != b'\n' {
+        return unsound(place);
     }
-    moved(p, further(row, p.at, 1))
+    moved(place, further(row, place.at, 1))
 }
 
 /// A word and bytes, up to the next line that does not begin with a space. The bytes go behind those that are there.
-pub fn argument(row: &[u8], p: Place, w: &[u8], bytes: &mut [u8]) -> Place {
-    let from = word(row, p, w);
+pub fn argument(row: &[u8], place: Place, wanted: &[u8], bytes: &mut [u8]) -> Place {
+    let from = word(row, place, wanted);
     let to = find_line(row, next_line(row, from.at), Kind::Fresh);
-    let written = write(part(row, from.at, to), bytes, p.end);
+    let written = write(part(row, from.at, to), bytes, place.end);
     if !written.sound {
         return unsound(from);
     }
     Place {
         at: to,
         end: written.end,
-        value: p.value,
+        value: place.value,
         sound: from.sound,
     }
 }
 
 /// Whether all of the row is read, and was as it should be.
-pub fn is_read(row: &[u8], p: Place) -> bool {
-    p.sound && row.len() <= find_line(row, p.at, Kind::Telling)
+pub fn is_read(row: &[u8], place: Place) -> bool {
+    place.sound && row.len() <= find_line(row, place.at, Kind::Telling)
 }

@@ -11,11 +11,11 @@ use row_text::lines::next_line;
 use row_text::parts::part;
 
 /// The line of a row.
-fn say_row(row: &[u8], number: u64, v: Verdict) {
+fn say_row(row: &[u8], number: u64, verdict: Verdict) {
     io::write_all(1, row_name(row));
     io::write_all(1, b": ");
-    say_verdict(v);
-    if let Verdict::Malformed = v {
+    say_verdict(verdict);
+    if let Verdict::Malformed = verdict {
         io::write_all(1, b" row ");
         io::print_decimal(1, number);
     }
@@ -23,11 +23,11 @@ fn say_row(row: &[u8], number: u64, v: Verdict) {
 }
 
 /// 1 for a row that agrees, else 0. Each is reported.
-fn counted(row: &[u8], number: u64, v: Verdict) -> u64
+fn counted(row: &[u8], number: u64, verdict: Verdict) -> u64
     ensures { λ r. ⌜ r ≤ 1 ⌝ }
 {
-    say_row(row, number, v);
-    if let Verdict::Agrees = v { 1 } else { 0 }
+    say_row(row, number, verdict);
+    if let Verdict::Agrees = verdict { 1 } else { 0 }
 }
 
 /// Runs every row and reports. The first line that says something begins the first row, whatever it says, and a row
@@ -39,9 +39,9 @@ pub fn count(text: &[u8]) {
     while at < text.len() {
         let end = find_line(text, next_line(text, at), Kind::Row);
         let row = part(text, at, end);
-        let v = row_verdict(row);
+        let verdict = row_verdict(row);
         rows += 1;
-        agree += counted(row, rows, v);
+        agree += counted(row, rows, verdict);
         at = end;
     }
     say_total(rows, b"rows", agree);

@@ -9,8 +9,8 @@ use crate::count::count;
 const ROOM: usize = 196608;
 
 /// Reports a text that may go on behind what was read of it.
-fn warn(n: usize) {
-    if n == ROOM {
+fn warn(length: usize) {
+    if length == ROOM {
         io::write_all(1, b"the text is too long\n");
     }
 }

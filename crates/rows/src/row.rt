@@ -29,33 +29,33 @@ pub fn row_name(row: &[u8]) -> &[u8] {
 }
 
 /// The number that is expected.
-fn expected_number(row: &[u8], p: Place) -> Place {
-    line_feed(row, number(row, word(row, p, b"number")))
+fn expected_number(row: &[u8], place: Place) -> Place {
+    line_feed(row, number(row, word(row, place, b"number")))
 }
 
 /// The result that is expected, if the number that was read last is 0.
-fn expected_result(row: &[u8], p: Place, bytes: &mut [u8]) -> Place {
-    if p.value == 0 {
-        return argument(row, p, b"result ", bytes);
+fn expected_result(row: &[u8], place: Place, bytes: &mut [u8]) -> Place {
+    if place.value == 0 {
+        return argument(row, place, b"result ", bytes);
     }
-    p
+    place
 }
 
 /// The verdict of a row whose call only checks.
-fn check_row(row: &[u8], p: Place, c: Check) -> Verdict {
+fn check_row(row: &[u8], place: Place, check: Check) -> Verdict {
     let mut bytes = [0u8; BYTES];
-    let b = argument(row, line_feed(row, p), b"bytes ", &mut bytes);
+    let b = argument(row, line_feed(row, place), b"bytes ", &mut bytes);
     let n = expected_number(row, b);
     if !is_read(row, n) {
         return Verdict::Malformed;
     }
-    compare_check(c, front(&bytes, n.end), n.value as u64)
+    compare_check(check, front(&bytes, n.end), n.value as u64)
 }
 
 /// The verdict of a row whose call is a run.
-fn run_row(row: &[u8], p: Place) -> Verdict {
+fn run_row(row: &[u8], place: Place) -> Verdict {
     let mut bytes = [0u8; BYTES];
-    let w = number(row, p);
+    let w = number(row, place);
     let r = number(row, w);
     let q = argument(row, line_feed(row, r), b"query ", &mut bytes);
     let i = argument(row, q, b"input ", &mut bytes);
@@ -79,19 +79,19 @@ fn run_row(row: &[u8], p: Place) -> Verdict {
 
 /// The verdict of a row.
 pub fn row_verdict(row: &[u8]) -> Verdict {
-    let p = Place {
+    let place = Place {
         at: next_line(row, 0),
         end: 0,
         value: 0,
         sound: begins(row, b"row "),
     };
-    let a = word(row, p, b"check-array");
+    let a = word(row, place, b"check-array");
     if a.sound {
         return check_row(row, a, Check::Array);
     }
-    let q = word(row, p, b"check-query");
+    let q = word(row, place, b"check-query");
     if q.sound {
         return check_row(row, q, Check::Query);
     }
-    run_row(row, word(row, p, b"run"))
+    run_row(row, word(row, place, b"run"))
 }

@@ -16,42 +16,46 @@ use spec_run::answer::Answer;
 pub const READ: usize = 65536;
 
 /// Writes an answer as text at the start of an area: where the text ends.
-fn write_answer(a: Answer, result: &[u8], text: &mut [u8]) -> usize
-    requires { ⌜ ShowReady a (now result) (now text) ⌝ }
-    ensures { λ r. ⌜ ShowsAnswer a (now (result .entry)) (now (text .exit)) r ⌝ }
+fn write_answer(answer: Answer, result: &[u8], text: &mut [u8]) -> usize
+    requires { ⌜ ShowReady answer (now result) (now text) ⌝ }
+    ensures { λ r. ⌜ ShowsAnswer answer (now (result .entry)) (now (text .exit)) r ⌝ }
 {
-    match a {
+    match answer {
         Answer::Accepted(n) => write_hex(text, &result[..n]),
         Answer::Refused(r) => write_refused(text, refusal_number(r)),
     }
 }
 
 /// The bytes that the program reads of an input.
-fn read_part(s: &[u8]) -> &[u8]
-    ensures { λ r. ⌜ now r ≡ take programMax (now (s .entry)) ⌝ }
+fn read_part(input: &[u8]) -> &[u8]
+    ensures { λ r. ⌜ now r ≡ take programMax (now (input .entry)) ⌝ }
 {
-    if READ < s.len() { &s[..READ] } else { s }
+    if READ < input.len() {
+        &input[..READ]
+    } else {
+        input
+    }
 }
 
 /// Answers what is read of an input in these areas: the query and then the input, each as long as its head says or
 /// what is left, then the joined array, all the rest. The text of the answer is written at the start of an area:
 /// where it ends.
-fn respond_in(s: &[u8], work: &mut [u8], result: &mut [u8], text: &mut [u8]) -> usize
-    requires { ⌜ RespondReady (now s) (now work) (now result) (now text) ⌝ }
-    ensures { λ r. ⌜ Begins (now (text .exit)) (program (now (s .entry))) r ⌝ }
+fn respond_in(input: &[u8], work: &mut [u8], result: &mut [u8], text: &mut [u8]) -> usize
+    requires { ⌜ RespondReady (now input) (now work) (now result) (now text) ⌝ }
+    ensures { λ r. ⌜ Begins (now (text .exit)) (program (now (input .entry))) r ⌝ }
 {
-    let m = piece_end(s, 0);
-    let n = piece_end(s, m);
-    let a = run(&s[..m], &s[m..n], &s[n..], work, result);
-    write_answer(a, result, text)
+    let m = piece_end(input, 0);
+    let n = piece_end(input, m);
+    let answer = run(&input[..m], &input[m..n], &input[n..], work, result);
+    write_answer(answer, result, text)
 }
 
 /// Answers an input of any length. The text of the answer is written at the start of an area that holds every answer:
 /// where it ends.
-pub fn respond(s: &[u8], text: &mut [u8; 32800]) -> usize
-    ensures { λ r. ⌜ Begins (now (text .exit)) (program (now (s .entry))) r ⌝ }
+pub fn respond(input: &[u8], text: &mut [u8; 32800]) -> usize
+    ensures { λ r. ⌜ Begins (now (text .exit)) (program (now (input .entry))) r ⌝ }
 {
     let mut work = [0u8; Limits::WORK];
     let mut result = [0u8; Limits::ARRAY];
-    respond_in(read_part(s), &mut work, &mut result, text)
+    respond_in(read_part(input), &mut work, &mut result, text)
 }

@@ -8,16 +8,16 @@ use areas::number::wide;
 
 /// Where the piece that begins at `from` ends: as long as its head says, or what is left. Fewer than three bytes have
 /// no head, and are all that is left.
-pub fn piece_end(s: &[u8], from: usize) -> usize
-    requires { ⌜ (from ≤ length (now s)) × (length (now s) ≤ programMax) ⌝ }
-    ensures { λ r. ⌜ r ≡ pieceEnd (now (s .entry)) from ⌝ }
+pub fn piece_end(input: &[u8], from: usize) -> usize
+    requires { ⌜ (from ≤ length (now input)) × (length (now input) ≤ programMax) ⌝ }
+    ensures { λ r. ⌜ r ≡ pieceEnd (now (input .entry)) from ⌝ }
 {
-    if s.len() < from + 3 {
-        return s.len();
+    if input.len() < from + 3 {
+        return input.len();
     }
-    let e = from + 3 + (wide(s[from + 1]) * 256 + wide(s[from + 2]));
-    if e < s.len() {
+    let e = from + 3 + (wide(input[from + 1]) * 256 + wide(input[from + 2]));
+    if e < input.len() {
         return e;
     }
-    s.len()
+    input.len()
 }

@@ -8,52 +8,52 @@ ghost use Rattle.tquery_cli.specs.Text.{Begins};
 use areas::area::emit;
 
 /// The character of a hexadecimal digit.
-fn hex_digit(x: u8) -> u8
-    requires { ⌜ x < 16 ⌝ }
-    ensures { λ r. ⌜ r ≡ digit x ⌝ }
+fn hex_digit(value: u8) -> u8
+    requires { ⌜ value < 16 ⌝ }
+    ensures { λ r. ⌜ r ≡ digit value ⌝ }
 {
-    if x < 10 {
-        return 48 + x;
+    if value < 10 {
+        return 48 + value;
     }
-    87 + x
+    87 + value
 }
 
-/// Writes the bytes of s in hexadecimal, and a line feed, at the start of d: where the text ends.
-pub fn write_hex(d: &mut [u8], s: &[u8]) -> usize
-    requires { ⌜ 2 * length (now s) + 1 ≤ length (now d) ⌝ }
-    ensures { λ r. ⌜ Begins (now (d .exit)) (hex (now (s .entry))) r ⌝ }
+/// Writes bytes in hexadecimal, and a line feed, at the start of `text`: where the text ends.
+pub fn write_hex(text: &mut [u8], bytes: &[u8]) -> usize
+    requires { ⌜ 2 * length (now bytes) + 1 ≤ length (now text) ⌝ }
+    ensures { λ r. ⌜ Begins (now (text .exit)) (hex (now (bytes .entry))) r ⌝ }
 {
     let mut i = 0;
-    while i < s.len() {
-        d[2 * i] = hex_digit(s[i] / 16);
-        d[2 * i + 1] = hex_digit(s[i] % 16);
+    while i < bytes.len() {
+        text[2 * i] = hex_digit(bytes[i] / 16);
+        text[2 * i + 1] = hex_digit(bytes[i] % 16);
         i += 1;
     }
-    d[2 * i] = b'\n';
+    text[2 * i] = b'\n';
     2 * i + 1
 }
 
 /// Writes a number below 100 in decimal at `at`: where it ends.
-fn write_decimal(d: &mut [u8], at: usize, n: u64) -> usize
-    requires { ⌜ (at + 2 ≤ length (now d)) × (n < 100) ⌝ }
-    ensures { λ r. ⌜ Begins (now (d .exit)) (take at (now (d .entry)) ++ decimal n) r × (r ≤ at + 2) ⌝ }
+fn write_decimal(text: &mut [u8], at: usize, number: u64) -> usize
+    requires { ⌜ (at + 2 ≤ length (now text)) × (number < 100) ⌝ }
+    ensures { λ r. ⌜ Begins (now (text .exit)) (take at (now (text .entry)) ++ decimal number) r × (r ≤ at + 2) ⌝ }
 {
-    if n < 10 {
-        d[at] = (48 + n) as u8;
+    if number < 10 {
+        text[at] = (48 + number) as u8;
         return at + 1;
     }
-    d[at] = (48 + n / 10) as u8;
-    d[at + 1] = (48 + n % 10) as u8;
+    text[at] = (48 + number / 10) as u8;
+    text[at + 1] = (48 + number % 10) as u8;
     at + 2
 }
 
-/// Writes "refused ", the number of a refusal and a line feed at the start of d: where the text ends.
-pub fn write_refused(d: &mut [u8], n: u64) -> usize
-    requires { ⌜ (11 ≤ length (now d)) × (n < 100) ⌝ }
-    ensures { λ r. ⌜ Begins (now (d .exit)) (refusedText n) r ⌝ }
+/// Writes "refused ", the number of a refusal and a line feed at the start of `text`: where the text ends.
+pub fn write_refused(text: &mut [u8], number: u64) -> usize
+    requires { ⌜ (11 ≤ length (now text)) × (number < 100) ⌝ }
+    ensures { λ r. ⌜ Begins (now (text .exit)) (refusedText number) r ⌝ }
 {
-    emit(d, 0, b"refused ");
-    let e = write_decimal(d, 8, n);
-    d[e] = b'\n';
+    emit(text, 0, b"refused ");
+    let e = write_decimal(text, 8, number);
+    text[e] = b'\n';
     e + 1
 }

@@ -7,15 +7,15 @@ use Rattle.row_text.proofs.lines.find_line.Statement.{statement}
 use Rattle.row_text.proofs.lines.find_line.Tie as tie
 use Rattle.row_text.proofs.lines.find_line.Reads as reads
 use Rattle.row_text.proofs.lines.find_line.Lts as lts
-use Rattle.row_text.proofs.parts.behind.Reads as behind-reads
 use Rattle.row_text.proofs.lines.begins_with.Reads as begins-with-reads
 use Rattle.row_text.proofs.lines.next_line.Reads as next-line-reads
+use Rattle.row_text.proofs.parts.behind.Reads as behind-reads
 
 abbrev Inv-loop : tie.InvT-loop
-Inv-loop t from k at₀ at = from ≤ at
+Inv-loop text from kind at₀ at = from ≤ at
 
 abbrev μ-loop : tie.MeasureT-loop
-μ-loop t from k at₀ at = length t - at
+μ-loop text from kind at₀ at = length text - at
 
 loop-holds : tie.Need-loop-holds Inv-loop μ-loop
 loop-holds c = search needs

@@ -8,10 +8,10 @@ use Rattle.row_text.proofs.lines.line_end.Reads as reads
 use Rattle.row_text.proofs.lines.line_end.Lts as lts
 
 abbrev Inv-loop : tie.InvT-loop
-Inv-loop t from at₀ at = from ≤ at
+Inv-loop text from at₀ at = from ≤ at
 
 abbrev μ-loop : tie.MeasureT-loop
-μ-loop t from at₀ at = length t - at
+μ-loop text from at₀ at = length text - at
 
 loop-holds : tie.Need-loop-holds Inv-loop μ-loop
 loop-holds c = search needs

@@ -11,10 +11,10 @@ use Rattle.row_text.proofs.lines.byte_at.Reads as byte-at-reads
 use Rattle.row_text.proofs.notation.put.Reads as put-reads
 
 abbrev Inv-loop : tie.InvT-loop
-Inv-loop b₀ from to end at₀ i₀ b at i = length b ≡ length b₀
+Inv-loop bytes₀ from to end at₀ i₀ bytes at i = length bytes ≡ length bytes₀
 
 abbrev μ-loop : tie.MeasureT-loop
-μ-loop b₀ from to end at₀ i₀ b at i = to - i
+μ-loop bytes₀ from to end at₀ i₀ bytes at i = to - i
 
 loop-holds : tie.Need-loop-holds Inv-loop μ-loop
 loop-holds c = search needs

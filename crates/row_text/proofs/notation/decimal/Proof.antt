@@ -10,10 +10,10 @@ use Rattle.row_text.proofs.notation.digit.Reads as digit-reads
 use Rattle.row_text.proofs.notation.longer.Reads as longer-reads
 
 abbrev Inv-loop : tie.InvT-loop
-Inv-loop t from value₀ at₀ value at = from ≤ at
+Inv-loop text from value₀ at₀ value at = from ≤ at
 
 abbrev μ-loop : tie.MeasureT-loop
-μ-loop t from value₀ at₀ value at = length t - at
+μ-loop text from value₀ at₀ value at = length text - at
 
 loop-holds : tie.Need-loop-holds Inv-loop μ-loop
 loop-holds c = search needs

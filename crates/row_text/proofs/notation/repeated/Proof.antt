@@ -10,10 +10,10 @@ use Rattle.row_text.proofs.notation.repeated.Lts as lts
 use Rattle.row_text.proofs.notation.again.Reads as again-reads
 
 abbrev Inv-loop : tie.InvT-loop
-Inv-loop b₀ from to times at₀ i₀ b at i = (i ≤ times) × (length b ≡ length b₀)
+Inv-loop bytes₀ from to times at₀ i₀ bytes at i = (i ≤ times) × (length bytes ≡ length bytes₀)
 
 abbrev μ-loop : tie.MeasureT-loop
-μ-loop b₀ from to times at₀ i₀ b at i = times - i
+μ-loop bytes₀ from to times at₀ i₀ bytes at i = times - i
 
 loop-holds : tie.Need-loop-holds Inv-loop μ-loop
 loop-holds c = search needs

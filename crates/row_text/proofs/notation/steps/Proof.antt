@@ -10,10 +10,10 @@ use Rattle.row_text.proofs.notation.steps.Lts as lts
 use Rattle.row_text.proofs.notation.step.Reads as step-reads
 
 abbrev Inv-loop : tie.InvT-loop
-Inv-loop t b₀ from s₀ i₀ b s i = (i ≤ length t) × (length b ≡ length b₀)
+Inv-loop text bytes₀ from spot₀ i₀ bytes spot i = (i ≤ length text) × (length bytes ≡ length bytes₀)
 
 abbrev μ-loop : tie.MeasureT-loop
-μ-loop t b₀ from s₀ i₀ b s i = length t - i
+μ-loop text bytes₀ from spot₀ i₀ bytes spot i = length text - i
 
 loop-holds : tie.Need-loop-holds Inv-loop μ-loop
 loop-holds c = search needs

@@ -8,10 +8,10 @@ use Rattle.row_text.proofs.parts.each_is.Reads as reads
 use Rattle.row_text.proofs.parts.each_is.Lts as lts
 
 abbrev Inv-loop : tie.InvT-loop
-Inv-loop b x i₀ i = i ≤ length b
+Inv-loop bytes byte i₀ i = i ≤ length bytes
 
 abbrev μ-loop : tie.MeasureT-loop
-μ-loop b x i₀ i = length b - i
+μ-loop bytes byte i₀ i = length bytes - i
 
 loop-holds : tie.Need-loop-holds Inv-loop μ-loop
 loop-holds c = search needs

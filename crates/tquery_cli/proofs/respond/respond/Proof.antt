@@ -20,13 +20,13 @@ slice-aggregate-respond-in-2 c = search needs
 
 respond-in-requires : tie.Need-respond-in-requires
 respond-in-requires c κs =
-    areas-ready (c .before .before .before .before .before .args .s .now)
+    areas-ready (c .before .before .before .before .before .args .input .now)
     (c .before .before .before .read-part .ensures)
     (omega (arith, c .before .before .before .before .before .good))
 
 returns : tie.Need-returns
 returns c =
-    read-first (c .before .before .before .before .before .before .before .before .args .s .now)
+    read-first (c .before .before .before .before .before .before .before .before .args .input .now)
     (c .before .before .before .before .before .before .read-part .ensures)
     (c .before .before .respond-in .ensures)
 

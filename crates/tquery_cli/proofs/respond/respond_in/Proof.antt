@@ -21,7 +21,7 @@ piece-end-requires-2 c κs = search needs
 slice-aggregate-run : tie.Need-slice-aggregate-run
 slice-aggregate-run c =
     sym (length-take-le (c .before .before .piece-end .result)
-    (c .before .before .before .before .before .before .before .args .s .now)
+    (c .before .before .before .before .before .before .before .args .input .now)
     (omega (arith, c .before .before .piece-end .ensures)))
 
 sub-run : tie.Need-sub-run

@@ -13,7 +13,7 @@ add-if1 c = search needs
 
 returns : tie.Need-returns
 returns c =
-    piece-short (c .before .before .args .s .now) (c .before .before .args .from)
+    piece-short (c .before .before .args .input .now) (c .before .before .args .from)
     (c .before .before .pre .0) (c .if1 .taken)
 
 add-e : tie.Need-add-e
@@ -48,7 +48,7 @@ add-e-3 c = search needs
 
 returns-2 : tie.Need-returns-2
 returns-2 c =
-    piece-inside (c .before .before .before .before .before .before .before .args .s .now)
+    piece-inside (c .before .before .before .before .before .before .before .args .input .now)
     (c .before .before .before .before .before .before .before .args .from) _
     (c .before .before .before .before .before .if1 .left)
     (omega (arith, c .before .before .before .wide .ensures .0, c .before .wide2 .ensures .0))
@@ -56,7 +56,7 @@ returns-2 c =
 
 returns-3 : tie.Need-returns-3
 returns-3 c =
-    piece-over (c .before .before .before .before .before .before .before .args .s .now)
+    piece-over (c .before .before .before .before .before .before .before .args .input .now)
     (c .before .before .before .before .before .before .before .args .from) _
     (c .before .before .before .before .before .if1 .left)
     (omega (arith, c .before .before .before .wide .ensures .0, c .before .wide2 .ensures .0))

@@ -8,14 +8,14 @@ use Rattle.tquery_cli.proofs.text.write_decimal.Tie as tie
 use Rattle.tquery_cli.proofs.text.write_decimal.Reads as reads
 use Rattle.tquery_cli.proofs.text.write_decimal.Lts as lts
 
-add-d : tie.Need-add-d
-add-d c = search needs
+add-text : tie.Need-add-text
+add-text c = search needs
 
-cast-d : tie.Need-cast-d
-cast-d c = search needs
+cast-text : tie.Need-cast-text
+cast-text c = search needs
 
-slice-write-d : tie.Need-slice-write-d
-slice-write-d c = search needs
+slice-write-text : tie.Need-slice-write-text
+slice-write-text c = search needs
 
 add-result : tie.Need-add-result
 add-result c = search needs
@@ -25,31 +25,31 @@ same-length c = search needs
 
 returns : tie.Need-returns
 returns c = (
-  one-digit (c .before .args .d .now) (c .before .args .at) (c .before .args .n)
+  one-digit (c .before .args .text .now) (c .before .args .at) (c .before .args .number)
       (c .before .pre .0) (c .if1 .taken),
   omega arith,
 )
 
-add-d-2 : tie.Need-add-d-2
-add-d-2 c = search needs
+add-text-2 : tie.Need-add-text-2
+add-text-2 c = search needs
 
-cast-d-2 : tie.Need-cast-d-2
-cast-d-2 c = search needs
+cast-text-2 : tie.Need-cast-text-2
+cast-text-2 c = search needs
 
-slice-write-d-2 : tie.Need-slice-write-d-2
-slice-write-d-2 c = search needs
+slice-write-text-2 : tie.Need-slice-write-text-2
+slice-write-text-2 c = search needs
 
-add-d-3 : tie.Need-add-d-3
-add-d-3 c = search needs
+add-text-3 : tie.Need-add-text-3
+add-text-3 c = search needs
 
-cast-d-3 : tie.Need-cast-d-3
-cast-d-3 c = search needs
+cast-text-3 : tie.Need-cast-text-3
+cast-text-3 c = search needs
 
-add-d-4 : tie.Need-add-d-4
-add-d-4 c = search needs
+add-text-4 : tie.Need-add-text-4
+add-text-4 c = search needs
 
-slice-write-d-3 : tie.Need-slice-write-d-3
-slice-write-d-3 c = simp length-set (omega arith)
+slice-write-text-3 : tie.Need-slice-write-text-3
+slice-write-text-3 c = simp length-set (omega arith)
 
 add-result-2 : tie.Need-add-result-2
 add-result-2 c = search needs
@@ -59,7 +59,7 @@ same-length-2 c = search needs
 
 returns-2 : tie.Need-returns-2
 returns-2 c = (
-  two-digits (c .before .args .d .now) (c .before .args .at) (c .before .args .n)
+  two-digits (c .before .args .text .now) (c .before .args .at) (c .before .args .number)
       (c .before .pre .0) (c .if1 .left),
   omega arith,
 )
@@ -68,19 +68,19 @@ pub write-decimal-spec : {M : Type 1} → statement M
 write-decimal-spec =
     tie.close
     (tie.spec
-    add-d
-    cast-d
-    slice-write-d
+    add-text
+    cast-text
+    slice-write-text
     add-result
     same-length
     returns
-    add-d-2
-    cast-d-2
-    slice-write-d-2
-    add-d-3
-    cast-d-3
-    add-d-4
-    slice-write-d-3
+    add-text-2
+    cast-text-2
+    slice-write-text-2
+    add-text-3
+    cast-text-3
+    add-text-4
+    slice-write-text-3
     add-result-2
     same-length-2
     returns-2)

@@ -12,11 +12,12 @@ use Rattle.tquery_cli.proofs.text.write_hex.Lts as lts
 use Rattle.tquery_cli.proofs.text.hex_digit.Reads as hex-digit-reads
 
 abbrev Inv-loop : tie.InvT-loop
-Inv-loop d₀ s i₀ d i =
-    (i ≤ length s) × (2 * length s + 1 ≤ length d) × (length d ≡ length d₀) × HexWritten d s i
+Inv-loop text₀ bytes i₀ text i =
+    (i ≤ length bytes) × (2 * length bytes + 1 ≤ length text) × (length text ≡ length text₀) ×
+    HexWritten text bytes i
 
 abbrev μ-loop : tie.MeasureT-loop
-μ-loop d₀ s i₀ d i = length s - i
+μ-loop text₀ bytes i₀ text i = length bytes - i
 
 loop-holds : tie.Need-loop-holds Inv-loop μ-loop
 loop-holds c = (omega arith, c .before .before .pre, refl, refl)
@@ -27,11 +28,11 @@ shared-slice-read-hex-digit c = search needs
 hex-digit-requires : tie.Need-hex-digit-requires Inv-loop μ-loop
 hex-digit-requires c κs = omega (arith, c .shared-slice-known2 .given (c .before .before .loop .i))
 
-mul-d : tie.Need-mul-d Inv-loop μ-loop
-mul-d c = search needs
+mul-text : tie.Need-mul-text Inv-loop μ-loop
+mul-text c = search needs
 
-slice-write-d : tie.Need-slice-write-d Inv-loop μ-loop
-slice-write-d c = search needs
+slice-write-text : tie.Need-slice-write-text Inv-loop μ-loop
+slice-write-text c = search needs
 
 shared-slice-read-hex-digit-2 : tie.Need-shared-slice-read-hex-digit-2 Inv-loop μ-loop
 shared-slice-read-hex-digit-2 c = search needs
@@ -40,14 +41,14 @@ hex-digit-requires-2 : tie.Need-hex-digit-requires-2 Inv-loop μ-loop
 hex-digit-requires-2 c κs =
     omega (arith, c .shared-slice-known3 .given (c .before .before .before .before .loop .i))
 
-mul-d-2 : tie.Need-mul-d-2 Inv-loop μ-loop
-mul-d-2 c = search needs
+mul-text-2 : tie.Need-mul-text-2 Inv-loop μ-loop
+mul-text-2 c = search needs
 
-add-d : tie.Need-add-d Inv-loop μ-loop
-add-d c = search needs
+add-text : tie.Need-add-text Inv-loop μ-loop
+add-text c = search needs
 
-slice-write-d-2 : tie.Need-slice-write-d-2 Inv-loop μ-loop
-slice-write-d-2 c =
+slice-write-text-2 : tie.Need-slice-write-text-2 Inv-loop μ-loop
+slice-write-text-2 c =
     simp length-set (omega (arith, c .before .before .before .before .before .loop .inv .1))
 
 add-i : tie.Need-add-i Inv-loop μ-loop
@@ -62,19 +63,19 @@ loop-again c = (
   simp length-set (c .before .before .before .before .before .loop .inv .1),
   simp
       length-set (c .before .before .before .before .before .loop .inv .2),
-  digits-more (c .before .before .before .before .before .loop .d)
-      (c .before .before .before .before .before .before .before .before .args .s .now)
+  digits-more (c .before .before .before .before .before .loop .text)
+      (c .before .before .before .before .before .before .before .before .args .bytes .now)
       (c .before .before .before .before .before .loop .i) _ _ (omega arith)
       (c .before .before .before .before .before .loop .inv .1)
       (c .before .before .hex-digit .ensures) (c .hex-digit2 .ensures)
       (c .before .before .before .before .before .loop .inv .3),
 )
 
-mul-d-3 : tie.Need-mul-d-3 Inv-loop μ-loop
-mul-d-3 c = search needs
+mul-text-3 : tie.Need-mul-text-3 Inv-loop μ-loop
+mul-text-3 c = search needs
 
-slice-write-d-3 : tie.Need-slice-write-d-3 Inv-loop μ-loop
-slice-write-d-3 c = search needs
+slice-write-text-3 : tie.Need-slice-write-text-3 Inv-loop μ-loop
+slice-write-text-3 c = search needs
 
 mul-result : tie.Need-mul-result Inv-loop μ-loop
 mul-result c = search needs
@@ -87,7 +88,7 @@ same-length c = simp length-set (c .before .loop .inv .2)
 
 returns : tie.Need-returns Inv-loop μ-loop
 returns c =
-    digits-end (c .before .loop .d) (c .before .before .before .before .args .s .now)
+    digits-end (c .before .loop .text) (c .before .before .before .before .args .bytes .now)
     (c .before .loop .i) (omega arith) (c .before .loop .inv .1) (c .before .loop .inv .3)
 
 pub write-hex-spec : {M : Type 1} → statement M
@@ -99,18 +100,18 @@ write-hex-spec =
     loop-holds
     shared-slice-read-hex-digit
     hex-digit-requires
-    mul-d
-    slice-write-d
+    mul-text
+    slice-write-text
     shared-slice-read-hex-digit-2
     hex-digit-requires-2
-    mul-d-2
-    add-d
-    slice-write-d-2
+    mul-text-2
+    add-text
+    slice-write-text-2
     add-i
     loop-less
     loop-again
-    mul-d-3
-    slice-write-d-3
+    mul-text-3
+    slice-write-text-3
     mul-result
     add-result
     same-length

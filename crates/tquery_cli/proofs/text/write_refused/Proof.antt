@@ -20,8 +20,8 @@ emit-requires c κs = search needs
 write-decimal-requires : tie.Need-write-decimal-requires
 write-decimal-requires c κs = search needs
 
-slice-write-d : tie.Need-slice-write-d
-slice-write-d c = search needs
+slice-write-text : tie.Need-slice-write-text
+slice-write-text c = search needs
 
 add-result : tie.Need-add-result
 add-result c = search needs
@@ -33,7 +33,7 @@ same-length c =
 
 returns : tie.Need-returns
 returns c =
-    refusal-end (c .before .before .before .before .before .before .before .before .before .before .args .n)
+    refusal-end (c .before .before .before .before .before .before .before .before .before .before .args .number)
     (c .before .before .before .before .before .before .before .before .before .before .pre .0)
     (c .before .before .before .before .before .before .emit .ensures)
     (c .before .before .write-decimal .ensures .0)
@@ -50,7 +50,7 @@ write-refused-spec =
     slice-aggregate-emit
     emit-requires
     write-decimal-requires
-    slice-write-d
+    slice-write-text
     add-result
     same-length
     returns)
