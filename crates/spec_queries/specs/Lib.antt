@@ -8,5 +8,6 @@ pub mod PathLaws
 pub mod CriterionLaws
 pub mod DataLaws
 pub mod QueryLaws
+pub mod ByteLaws
 pub mod CutLaws
 pub mod Examples

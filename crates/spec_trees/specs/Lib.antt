@@ -17,4 +17,5 @@ pub mod NumberLaws
 pub mod SizeLaws
 pub mod FindLaws
 pub mod ArrayLaws
+pub mod ByteLaws
 pub mod Examples
