@@ -2,12 +2,12 @@
 use mathlib.Core.Path.{_≡_, refl, sym, ap, ap₂, subst, _∙_}
 use mathlib.Core.List.{List, [], _∷_, _++_, append-assoc, append-nil}
 use mathlib.Core.Logic.{_⊎_, inl, inr}
-use Prim.Native.Nat.{ℕ, _+_, _-_, _≤_, _<_}
+use Prim.Native.Nat.{ℕ, suc, _+_, _-_, _≤_, _<_}
 use native.Mathlib.Nat.{add-zero}
 use native.Mathlib.Numerals.{add-one}
 use native.Mathlib.Omega.{arith}
 use lib.ListN.{length, take, drop, getD, set, take-append-drop, length-append, length-take, length-drop, List·getD-append, drop-of-length-le, replicate}
-use lib.Seq.{slice, length-take-le, take-all, take-take, take-add, take-at, take-suc-set, take-append-add, drop-at, drop-drop, drop-append-add, drop-append-seam, drop-append-le, take-append-le, drop-set-lt, getD-take, getD-drop, paste, paste-suc, take-paste, drop-paste}
+use lib.Seq.{slice, slice-cons, slice-empty, length-slice, length-take-le, take-all, take-take, take-add, take-at, take-suc-set, take-append-add, drop-at, drop-drop, drop-append-add, drop-append-seam, drop-append-le, take-append-le, drop-set-lt, getD-take, getD-drop, paste, paste-suc, take-paste, drop-paste}
 use borrow.Author.Tests.{le-leb, lt-leb}
 use Rattle.areas.specs.declared.area.Out.{Out}
 use Rattle.areas.specs.declared.area.Out.the-variants.{At, TooLarge}
@@ -302,6 +302,42 @@ module _ (w : List ℕ) (i n : ℕ) (a : i + n ≤ length w) where
       let there : getD source k 0 ≡ getD w (i + k) 0 = getD-take n (drop i w) k 0 c ∙ getD-drop i w k 0 in
       let byte : getD v (i + k) 0 ≡ getD source k 0 = ap (λ x. getD x (i + k) 0) e ∙ unread d k b c o ∙ sym there in
       rw (byte, e) (paste-more w source d k (omega arith) (omega arith))
+
+-- n bytes, from the last to the first, to a place so far below that none is stored over before it is read: the bytes
+-- from the i-th on are copied
+abbrev pub Backwards : (w : List ℕ) (from n to : ℕ) (v : List ℕ) (i : ℕ) → Type 0
+Backwards w from n to v i = Wrote w v (to + i) (length w) (slice (from + i) (from + n) w) (At (to + n))
+
+module _ (w : List ℕ) (from n to : ℕ) (b : from + n ≤ length w) (c : to + n ≤ from) where
+  pub back-begin : Backwards w from n to w n
+  back-begin = rw (slice-empty (from + n) w) (wrote-none w (to + n) (length w) (omega arith))
+
+  -- what lies beyond the copy is as it was
+  unwritten : {v : List ℕ} (i k : ℕ) → Backwards w from n to v i → to + n ≤ k → getD v k 0 ≡ getD w k 0
+  unwritten {v} i k h l =
+      let m = to + n in
+      let q : m + (k - m) ≡ k = omega arith in
+      ap (λ j. getD v j 0) (sym q) ∙ sym (getD-drop m v (k - m) 0) ∙ ap (λ l2. getD l2 (k - m) 0) (h .fits m refl .beyond)
+      ∙ getD-drop m w (k - m) 0 ∙ ap (λ j. getD w j 0) q
+
+  pub back-more : {v : List ℕ} (i : ℕ) → (i ≡ 0 → ⊥) → i ≤ n → Backwards w from n to v i
+      → Backwards w from n to (set v (to + (i - 1)) (getD v (from + (i - 1)) 0)) (i - 1)
+  back-more {v} i z l h =
+      let p : to + i ≡ to + (i - 1) + 1 = omega arith in
+      let q : from + i ≡ suc (from + (i - 1)) = omega arith in
+      let byte = unwritten i (from + (i - 1)) h (omega arith) in
+      let rest = subst (λ k. Wrote w v k (length w) (slice (suc (from + (i - 1))) (from + n) w) (At (to + n))) p
+      (subst (λ k. Wrote w v (to + i) (length w) (slice k (from + n) w) (At (to + n))) q h) in
+      rw (slice-cons (from + (i - 1)) (from + n) w 0 (omega arith) b, byte) (byte-before (getD w (from + (i - 1)) 0) (omega arith) (omega arith) rest)
+
+  pub back-end : {v : List ℕ} (i : ℕ) → i ≡ 0 → Backwards w from n to v i → Wrote w v to (length w) (take n (drop from w)) (At (to + n))
+  back-end {v} i z h =
+      let x : Is w from (from + n) (slice from (from + n) w) = record { lies = refl; ends = omega (arith, length-slice from (from + n) w b); inside = b } in
+      let m : from + n - from ≡ n = omega arith in
+      let y : take n (drop from w) ≡ slice from (from + n) w = ap (λ k. take k (drop from w)) (sym m) ∙ is-part x in
+      let p : to + i ≡ to = omega arith in
+      let q : from + i ≡ from = omega arith in
+      rw y (subst (λ k. Wrote w v k (length w) (slice from (from + n) w) (At (to + n))) p (subst (λ k. Wrote w v (to + i) (length w) (slice k (from + n) w) (At (to + n))) q h))
 
 -- what a copy wrote
 pub is-copied : {w v : List ℕ} {i e d stop : ℕ} {xs : List ℕ} {r : Out} → Is w i e xs → Wrote w v d stop (take (e - i) (drop i w)) r → Wrote w v d stop xs r

@@ -59,6 +59,20 @@ pub fn move_down(work: &mut [u8], part: Span, to: usize)
     carry(work, part.from, part.to - part.from, to);
 }
 
+/// Copies a part to a place so far below that the two have no byte in common. The last byte goes first: if the first
+/// did, the compiler could call `memmove`, which a machine need not have.
+pub fn copy_down(work: &mut [u8], part: Span, to: usize)
+    requires { ⌜ (part .from ≤ part .to) × (part .to ≤ length (now work)) × (to + (part .to - part .from) ≤ part .from) ⌝ }
+    ensures { λ _. ⌜ Wrote (now (work .entry)) (now (work .exit)) to (length (now (work .entry))) (take (part .to - part .from) (drop (part .from) (now (work .entry)))) (Out.At (to + (part .to - part .from))) ⌝ }
+{
+    let from = part.from;
+    let mut i = part.to - from;
+    while i != 0 {
+        i -= 1;
+        work[to + i] = work[from + i];
+    }
+}
+
 /// Copies all of another area.
 pub fn copy_in(work: &mut [u8], source: &[u8], room: Span) -> Out
     requires { ⌜ (room .from ≤ room .to) × (room .to ≤ length (now work)) ⌝ }

@@ -5,7 +5,7 @@ use crate::group_stretch::regroup;
 use crate::next::Next;
 use crate::next::StretchAt;
 use crate::next::next_group;
-use areas::area::move_down;
+use areas::area::copy_down;
 use areas::span::Span;
 use stream::collector::Collector;
 use stream::map::Map;
@@ -21,7 +21,7 @@ fn last(collector: Collector) -> Ended
     }
 }
 
-/// The collected array, of whose trees there are `len` bytes, is moved to the front, and grouped there.
+/// The collected array, of whose trees there are `len` bytes, is copied to the front, and grouped there.
 fn next_stretch<'a>(
     work: &mut [u8],
     len: usize,
@@ -34,7 +34,7 @@ fn next_stretch<'a>(
 {
     let from = work.len() - Map::END;
     let to = from + len;
-    move_down(work, Span { from, to }, 0);
+    copy_down(work, Span { from, to }, 0);
     regroup(work, len, query, at, joined)
 }
 

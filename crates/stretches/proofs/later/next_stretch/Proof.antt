@@ -7,7 +7,7 @@ use Rattle.stretches.proofs.later.next_stretch.Statement.{statement}
 use Rattle.stretches.proofs.later.next_stretch.Tie as tie
 use Rattle.stretches.proofs.later.next_stretch.Reads as reads
 use Rattle.stretches.proofs.later.next_stretch.Lts as lts
-use Rattle.areas.proofs.area.move_down.Reads as move-down-reads
+use Rattle.areas.proofs.area.copy_down.Reads as copy-down-reads
 use Rattle.stretches.proofs.group_stretch.regroup.Reads as regroup-reads
 
 sub-from : tie.Need-sub-from
@@ -16,16 +16,16 @@ sub-from c = search needs
 add-to : tie.Need-add-to
 add-to c = let b = held-bounds (c .before .before .before .pre) in omega (arith, b)
 
-move-down-requires : tie.Need-move-down-requires
-move-down-requires c κs =
+copy-down-requires : tie.Need-copy-down-requires
+copy-down-requires c κs =
     let b = held-bounds (c .before .before .before .before .pre) in
-    (omega arith, omega arith, omega (arith, b))
+    (omega arith, omega (arith, b), omega (arith, b))
 
 regroup-requires : tie.Need-regroup-requires
 regroup-requires c κs =
     held-group (c .before .before .before .before .before .before .before .before .pre)
-    (c .before .before .before .move-down .kept .0) _ refl
-    (c .before .before .before .move-down .ensures)
+    (c .before .before .before .copy-down .kept .0) _ refl
+    (c .before .before .before .copy-down .ensures)
 
 same-length : tie.Need-same-length
 same-length c = search needs
@@ -33,11 +33,11 @@ same-length c = search needs
 returns : tie.Need-returns
 returns c =
     held-post (c .before .before .before .before .before .before .before .before .before .before .before .pre)
-    (c .before .before .before .before .before .before .move-down .kept .0) _ refl
-    (c .before .before .before .before .before .before .move-down .ensures)
+    (c .before .before .before .before .before .before .copy-down .kept .0) _ refl
+    (c .before .before .before .before .before .before .copy-down .ensures)
     (c .before .before .regroup .last .0) (c .before .before .regroup .result)
     (c .before .before .regroup .ensures)
 
 pub next-stretch-spec : {M : Type 1} → statement M
 next-stretch-spec =
-    tie.close (tie.spec sub-from add-to move-down-requires regroup-requires same-length returns)
+    tie.close (tie.spec sub-from add-to copy-down-requires regroup-requires same-length returns)
