@@ -3,10 +3,6 @@ use mathlib.Core.List.{List, [], _∷_}
 use Prim.Native.Nat.{ℕ, _+_, _*_, _/_, _%_}
 use lib.ListN.{getD}
 
--- numbers of two bytes are below this
-abbrev pub twoLimit : ℕ
-twoLimit = 256 * 256
-
 -- the number of two bytes that stands at `at`, and the bytes of one
 abbrev pub twoAt : List ℕ → ℕ → ℕ
 twoAt s at = getD s at 0 * 256 + getD s (at + 1) 0

@@ -3,10 +3,10 @@
 ghost use mathlib.Core.Path.{_≡_};
 ghost use Prim.Native.Nat.{_+_, _≤_, _<_};
 ghost use lib.ListN.{length};
-ghost use Rattle.spec_trees.specs.Bytes.{big};
+ghost use Rattle.spec_trees.specs.Bytes.{twoLimit, big};
 ghost use Rattle.areas.specs.declared.area.Out.{Out};
 ghost use Rattle.areas.specs.Area.{Wrote};
-ghost use Rattle.areas.specs.Number.{twoLimit, twoAt, twoBytes, wordAt};
+ghost use Rattle.areas.specs.Number.{twoAt, twoBytes, wordAt};
 
 /// A byte as an index or a length.
 pub fn wide(byte: u8) -> usize

@@ -2,7 +2,7 @@
 ghost use mathlib.Core.Path.{_≡_};
 ghost use Prim.Native.Nat.{_+_, _*_, _≤_, _<_};
 ghost use lib.ListN.{length};
-ghost use Rattle.areas.specs.Number.{twoLimit};
+ghost use Rattle.spec_trees.specs.Bytes.{twoLimit};
 ghost use Rattle.format.specs.Head.{headAt, lenAt, spanAt};
 use areas::number::two_at;
 

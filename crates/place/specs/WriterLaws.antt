@@ -22,7 +22,8 @@ use Rattle.areas.specs.AreaLaws.{is-keep}
 use Rattle.format.specs.StandLaws.{tree-places, trees-places, holds-labels, holds-first, holds-rest}
 use Rattle.format.specs.LabelLaws.{holds-found}
 use Rattle.spec_queries.specs.Query.{Path, isPath}
-use Rattle.spec_queries.specs.PathLaws.{path-label, path-short, label-small}
+use Rattle.spec_queries.specs.PathLaws.{path-label, path-short}
+use Rattle.spec_trees.specs.ByteLaws.{label-small}
 use Rattle.queries.specs.Places.{pathBytes}
 use Rattle.queries.specs.Steps.{stepCount, stepAt, StepInside}
 use Rattle.queries.specs.StepLaws.{steps-are, step-is, step-inside, path-room}

@@ -57,7 +57,7 @@ fn keep_each(work: &mut [u8], query: &[u8], path: Span, i: usize, trees: Span, r
     while from != end {
         let m = field_end(work, from);
         let left = Span { from: at, to: stop };
-        let one = keep(work, query, path, i, Span { from: from, to: m }, left);
+        let one = keep(work, query, path, i, Span { from, to: m }, left);
         let Out::At(e) = one else {
             return Out::TooLarge;
         };

@@ -6,7 +6,7 @@ use native.Mathlib.Omega.{arith}
 use lib.ListN.{length, getD}
 use lib.Dec.{T, leb, leb→le}
 use Rattle.spec_trees.specs.Lists.{all}
-use Rattle.spec_trees.specs.Limits.{labelMax, pathMax}
+use Rattle.spec_trees.specs.Limits.{pathMax}
 use Rattle.spec_trees.specs.Tree.{isLabel}
 use Rattle.spec_trees.specs.OptionLaws.{T-and}
 use Rattle.spec_queries.specs.Query.{Path, isPath}
@@ -28,7 +28,3 @@ each-label (k ∷ p) (suc i) l h = each-label p i (omega arith) (T-and (isLabel 
 
 pub path-label : (p : Path) (i : ℕ) → i < length p → OkP p → T (isLabel (getD p i 0))
 path-label p i l h = each-label p i l (path-labels p h)
-
-pub label-small : (k : ℕ) → T (isLabel k) → k ≤ labelMax
-unfolding isLabel
-label-small k h = leb→le k labelMax (T-and (leb 1 k) (leb k labelMax) h .1)

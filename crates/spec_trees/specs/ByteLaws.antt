@@ -1,14 +1,14 @@
 -- The byte form of what the format allows holds bytes only: so an area can hold it.
 use mathlib.Core.List.{List, [], _∷_, _++_}
 use mathlib.Core.Bool.{Bool, true, false}
-use Prim.Native.Nat.{ℕ, zero, suc, _+_, _*_, _/_, _≤_, _<_}
+use Prim.Native.Nat.{ℕ, zero, suc, _/_, _≤_, _<_}
 use native.Mathlib.Omega.{arith}
 use lib.ListN.{length, length-append}
 use lib.Dec.{T, leb, leb→le}
 use Rattle.spec_trees.specs.Lists.{All}
 use Rattle.spec_trees.specs.Limits.{labelMax}
 use Rattle.spec_trees.specs.Tree.{Root, void, boolean, integer, text, Tree, node, Trees, ε, _▹_, Labels, bare, label, trees, isLabel}
-use Rattle.spec_trees.specs.Bytes.{Field, fieldBytes, bytes, low, big, pattern, rootF, labelTag, labelHeads, labelOf, labelF, treeF, treeFs, labelFs, arrayF, arrayBytes}
+use Rattle.spec_trees.specs.Bytes.{Field, twoLimit, fieldBytes, bytes, low, big, pattern, rootF, labelTag, labelHeads, labelOf, labelF, treeF, treeFs, labelFs, arrayF, arrayBytes}
 use Rattle.spec_trees.specs.Within.{AllBytes, OkR, Ok, OkA, OkL, Allowed, AllowedA, Within}
 use Rattle.spec_trees.specs.OptionLaws.{T-and}
 use Rattle.spec_trees.specs.ListLaws.{All-append, All-reverse}
@@ -16,7 +16,7 @@ use Rattle.spec_trees.specs.SizeLaws.{length-array}
 
 -- bytes only, if there are no more of them than two length bytes can say
 abbrev pub InBytes : List ℕ → Type 0
-InBytes xs = length xs < 256 * 256 → AllBytes xs
+InBytes xs = length xs < twoLimit → AllBytes xs
 
 abbrev pub FieldInBytes : Field → Type 0
 FieldInBytes f = InBytes (fieldBytes f)
@@ -50,9 +50,12 @@ pub big-in : (n w : ℕ) → AllBytes (big n w)
 unfolding big
 big-in n w = All-reverse (λ x. x < 256) (low n w) (low-in n w)
 
-pub label-in : (k : ℕ) → T (isLabel k) → k < 256
+pub label-small : (k : ℕ) → T (isLabel k) → k ≤ labelMax
 unfolding isLabel
-label-in k h = omega (arith, leb→le k labelMax (T-and (leb 1 k) (leb k labelMax) h .1))
+label-small k h = leb→le k labelMax (T-and (leb 1 k) (leb k labelMax) h .1)
+
+pub label-in : (k : ℕ) → T (isLabel k) → k < 256
+label-in k h = omega (arith, label-small k h)
 
 -- ---- trees
 root-in : (r : Root) → OkR r → FieldInBytes (rootF r)

@@ -2,7 +2,7 @@
 -- content bytes.
 use mathlib.Core.List.{List, [], _∷_, _++_, reverse}
 use mathlib.Core.Bool.{cond}
-use Prim.Native.Nat.{ℕ, zero, suc, _-_, _/_, _%_, _^_}
+use Prim.Native.Nat.{ℕ, zero, suc, _-_, _*_, _/_, _%_, _^_}
 use lib.IntN.{ℤ, pos, negsuc}
 use lib.ListN.{length}
 use Rattle.spec_trees.specs.Tree.{Root, void, boolean, integer, text, Tree, node, Trees, ε, _▹_, Labels, bare, label, trees}
@@ -10,6 +10,10 @@ use Rattle.spec_trees.specs.Tree.{Root, void, boolean, integer, text, Tr
 -- a field: its tag and its content
 abbrev pub Field : Type 0
 Field = ℕ × List ℕ
+
+-- what two length bytes can say is below this
+abbrev pub twoLimit : ℕ
+twoLimit = 256 * 256
 
 -- its bytes. Only this and `Readers.fields` see length bytes
 unfoldable pub fieldBytes : Field → List ℕ
@@ -46,7 +50,7 @@ rootF (text s) = (6, s)
 abbrev pub labelTag : ℕ
 labelTag = 7
 
--- the tag for the label k
+-- the tag for the label k, and so how many bytes stand before its trees
 unfoldable pub labelHeads : ℕ → ℕ
 labelHeads k = labelTag
 

@@ -26,7 +26,8 @@ use Rattle.format.specs.Stand.{treesBytes, Holds, Finds}
 use Rattle.format.specs.StandLaws.{tree-parts, trees-parts, trees-none, trees-places, holds-first}
 use Rattle.spec_queries.specs.Query.{Path, Stage, unwind, isPath}
 use Rattle.spec_queries.specs.Rules.{OkP}
-use Rattle.spec_queries.specs.PathLaws.{path-label, label-small}
+use Rattle.spec_queries.specs.PathLaws.{path-label}
+use Rattle.spec_trees.specs.ByteLaws.{label-small}
 use Rattle.queries.specs.Places.{pathBytes}
 use Rattle.queries.specs.Steps.{stepCount, stepAt}
 use Rattle.queries.specs.StepLaws.{steps-are, step-is}
