@@ -11,13 +11,13 @@ use Rattle.spec_trees.specs.Tree.{Root, void, boolean, integer, text, Tr
 abbrev pub Field : Type 0
 Field = ℕ × List ℕ
 
--- what two length bytes can say is below this
-abbrev pub twoLimit : ℕ
-twoLimit = 256 * 256
-
 -- its bytes. Only this and `Readers.fields` see length bytes
 unfoldable pub fieldBytes : Field → List ℕ
 fieldBytes f = f .0 ∷ length (f .1) / 256 ∷ length (f .1) % 256 ∷ f .1
+
+-- what two length bytes can say is below this
+abbrev pub twoLimit : ℕ
+twoLimit = 256 * 256
 
 -- fields, one behind another
 unfoldable pub bytes : List Field → List ℕ
