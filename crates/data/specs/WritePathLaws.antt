@@ -29,7 +29,8 @@ use Rattle.format.specs.StandLaws.{tree-parts}
 use Rattle.queries.specs.Steps.{stepCount}
 use Rattle.queries.specs.StepLaws.{steps-are}
 use Rattle.data.specs.declared.value.Value.{Value}
-use Rattle.spec_stages.specs.Paths.{Given, join, joins, over, apply}
+use Rattle.spec_stages.specs.Paths.{Given, join, over, apply}
+use Rattle.spec_stages.specs.PathLaws.{over-itself}
 use Rattle.spec_stages.specs.Data.{reducedInt, reducedRoot, reducedTree}
 use Rattle.data.specs.Integer.{Reduces}
 use Rattle.paths.specs.Walk.{given, Tells, TellsOver, TellsJoined, Under}
@@ -237,17 +238,6 @@ pub parts-reduced : (n : ℕ) (x : Given) → (n ≡ 0 → ⊥) → parts n x �
 parts-reduced n none z = refl
 parts-reduced n (some a) z = ap some (map-reduced n a z)
 
--- the empty path over an array
-more-self : (t : Tree) (ts : List Tree) → join (some (t ∷ [])) (joins (map (apply []) ts)) ≡ some (t ∷ ts)
-unfolding join joins apply
-more-self t [] = refl
-more-self t (u ∷ us) = ap (join (some (t ∷ []))) (more-self u us)
-
-over-self : (ts : List Tree) → over (apply []) ts ≡ some ts
-unfolding over joins apply
-over-self [] = refl
-over-self (t ∷ ts) = more-self t ts
-
 module _ (q : List ℕ) (p : Span) (i : ℕ) (w : List ℕ) (a b d stop n : ℕ) where
   pub walk-end : {v : List ℕ} {r : Out} → i ≡ stepCount q p → WroteLeaf w v (span a b) (span d stop) n r → Tells q p i w (span a b) (WroteParts n false w v (span d stop) (valueOf r))
   unfolding given join
@@ -279,7 +269,7 @@ module _ (q : List ℕ) (p : Span) (i : ℕ) (w : List ℕ) (a b d stop n : ℕ)
   unfolding join
   over-piece {v} {r} y z k path ts g h o =
       let m : drop i path ≡ [] = drop-of-length-le path {i = i} (omega (arith, steps-are path g)) in
-      let s : over (apply (drop i path)) (list ts) ≡ some (list ts) = ap (λ l. over (apply l) (list ts)) m ∙ over-self (list ts) in
+      let s : over (apply (drop i path)) (list ts) ≡ some (list ts) = ap (λ l. over (apply l) (list ts)) m ∙ over-itself (list ts) in
       value-array (list ts) r (parts-zero n _ y ∙ s) (subst (λ l. Wrote w v d stop l r) (ap treesBytes (sym (trees-list ts))) (is-copied h k))
 
   pub walked-piece : {v : List ℕ} {r : Out} {o : Value} → o ≡ valueOf r → n ≡ 0 → i ≡ stepCount q p → d ≤ length w → d ≤ stop → Wrote w v d stop (take (b - a) (drop a w)) r

@@ -25,7 +25,7 @@ use Rattle.data.specs.Value.{WroteFound, isLarge, endOf, foundOf, answerOf, bef
 use Rattle.data.specs.ValueLaws.{value-absent, value-keep, value-end, value-next, value-stop, value-done}
 use Rattle.data.specs.Write.{WalkReady}
 use Rattle.group.specs.Members.{MembersReady, WroteMember, MembersFrom, WroteMembers}
-use Rattle.spec_stages.specs.ClassesLaws.{alike-self}
+use Rattle.spec_stages.specs.AlikeLaws.{alike-self}
 use Rattle.queries.specs.TreesLaws.{array-parts, array-none, array-before, array-first, array-rest}
 
 -- ---- one tree

@@ -1,39 +1,24 @@
 -- What a path of at most one label gives stands in one piece.
 use mathlib.Core.Path.{_≡_, refl, sym, ap, subst, _∙_}
-use mathlib.Core.List.{List, [], _∷_, _++_, map, append-nil}
-use mathlib.Core.Option.{none, some}
+use mathlib.Core.List.{List, [], _∷_, append-nil}
+use mathlib.Core.Option.{some}
 use Prim.Native.Nat.{ℕ, _+_, _≤_, _<_}
 use native.Mathlib.Omega.{arith}
 use lib.ListN.{drop, drop-of-length-le}
 use Rattle.format.specs.declared.labels.Found.{Found}
 use Rattle.format.specs.declared.labels.Found.the-variants.{Part}
 use Rattle.spec_trees.specs.Options.{_>>=_}
-use Rattle.spec_trees.specs.Tree.{Tree, ε, _▹_}
+use Rattle.spec_trees.specs.Tree.{ε, _▹_}
 use Rattle.spec_trees.specs.Bytes.{bytes, treeFs, treeBytes}
 use Rattle.areas.specs.Area.{Is, IsAt, span}
 use Rattle.areas.specs.declared.span.Span.{Span}
 use Rattle.format.specs.Stand.{ArrayIs, FoundIs}
 use Rattle.queries.specs.Steps.{stepCount, stepAt}
 use Rattle.queries.specs.StepLaws.{steps-are}
-use Rattle.spec_stages.specs.Paths.{Given, join, joins, over, reached, apply}
+use Rattle.spec_stages.specs.Paths.{over, reached, apply}
+use Rattle.spec_stages.specs.PathLaws.{given-itself}
 use Rattle.paths.specs.Walk.{Tells, Under}
 use Rattle.paths.specs.WalkLaws.{step-apply, tells-end}
-
--- the empty path gives the trees themselves
-joins-itself : (t : Tree) (ts : List Tree) → joins (map (apply []) (t ∷ ts)) ≡ some (t ∷ ts)
-unfolding joins join apply
-joins-itself t [] = refl
-joins-itself t (u ∷ us) = ap (join (some (t ∷ []))) (joins-itself u us)
-
-over-itself : (ts : List Tree) → over (apply []) ts ≡ some ts
-unfolding over
-over-itself [] = refl
-over-itself (t ∷ ts) = joins-itself t ts
-
-found-itself : (x : Given) → (x >>= over (apply [])) ≡ x
-unfolding _>>=_
-found-itself none = refl
-found-itself (some a) = over-itself a
 
 module _ (q : List ℕ) (p : Span) (s : List ℕ) (a b : ℕ) where
   pub piece-whole : 0 ≡ stepCount q p → Tells q p 0 s (span a b) (λ x. FoundIs s (span a b) x (Part (span a b)))
@@ -53,5 +38,5 @@ module _ (q : List ℕ) (p : Span) (s : List ℕ) (a b : ℕ) where
   piece-under {r} n l u path t g h =
       let k : drop (0 + 1) path ≡ [] = drop-of-length-le path {i = 0 + 1} (omega (arith, steps-are path g)) in
       subst (λ x. FoundIs s (span a b) x r)
-      (sym (step-apply q p 0 n path t g ∙ ap (λ c. reached (stepAt q p 0) t >>= over (apply c)) k ∙ found-itself (reached (stepAt q p 0) t)))
+      (sym (step-apply q p 0 n path t g ∙ ap (λ c. reached (stepAt q p 0) t >>= over (apply c)) k ∙ given-itself (reached (stepAt q p 0) t)))
       (u t h)

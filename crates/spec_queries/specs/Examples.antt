@@ -1,19 +1,21 @@
--- Queries that are accepted and some that are refused, computed from the definitions.
+-- Queries that are accepted and some that are refused, and groups that can be regrouped and some that can't, computed
+-- from the definitions.
 use mathlib.Core.Path.{_≡_, refl}
 use mathlib.Core.List.{List, [], _∷_, map}
 use mathlib.Core.Bool.{Bool, true, false}
-use mathlib.Core.Option.{Option}
+use mathlib.Core.Option.{Option, none, some}
 use Prim.Native.Nat.{ℕ, zero, suc}
 use lib.ListN.{replicate}
 use Rattle.spec_trees.specs.Options.{some?}
 use Rattle.spec_trees.specs.Examples.{#, decoded}
-use Rattle.spec_queries.specs.Query.{Criterion, always, exists, equal, same, negated, both, either, Data, literal, path, listed, test, choice, reduced, ended, more, datas, keep, place, Stage, match, unwind, project, group, lookup, isPath, isDivisor}
+use Rattle.spec_queries.specs.Query.{Path, Criterion, always, exists, equal, same, negated, both, either, Data, literal, path, listed, test, choice, reduced, ended, more, datas, keep, place, Stage, match, unwind, project, group, lookup, isPath, isDivisor}
 use Rattle.spec_queries.specs.Bytes.{pathF, criterionF, divisorF, dataF, itemF, pairF, pairsF, stageF, queryF, queryBytes}
 use Rattle.spec_queries.specs.Decode.{pathR, pathR⁺, criterionR, divisorR, dataR, itemR, pairOf, pairR, pairsR, stageR, queryR, decodeQuery, readQuery}
+use Rattle.spec_queries.specs.Again.{again, leads, distinctLabels, distinctTargets, regrouping}
 
 -- under this name all definitions of the crate and of those below compute
 unfoldable abbrev pub admitted : List ℕ → Option (List Stage)
-unfolding decoded pathF criterionF divisorF dataF itemF pairF pairsF stageF queryF queryBytes isPath pathR pathR⁺ criterionR isDivisor divisorR dataR itemR pairR pairsR stageR queryR decodeQuery readQuery
+unfolding decoded pathF criterionF divisorF dataF itemF pairF pairsF stageF queryF queryBytes isPath pathR pathR⁺ criterionR isDivisor divisorR dataR itemR pairR pairsR stageR queryR decodeQuery readQuery again leads distinctLabels distinctTargets regrouping
 admitted b = decodeQuery b
 
 abbrev nots : ℕ → Criterion
@@ -80,3 +82,35 @@ queries =
 queries-are : map (λ r. some? (admitted (queryBytes (r .0)))) queries ≡ map (λ r. r .1) queries
 unfolding admitted
 queries-are = refl
+
+-- destinations, and whether they are single labels of which none stands twice: none at all will do
+abbrev destinations : List (List Path × Bool)
+destinations =
+    ([], true)
+    ∷ ((3 ∷ []) ∷ (1 ∷ []) ∷ (2 ∷ []) ∷ [], true)
+    ∷ ((1 ∷ []) ∷ (2 ∷ 3 ∷ []) ∷ [], false)
+    ∷ ((1 ∷ []) ∷ [] ∷ [], false)
+    ∷ ((1 ∷ []) ∷ (2 ∷ []) ∷ (1 ∷ []) ∷ [], false)
+    ∷ []
+
+destinations-are : map (λ r. distinctLabels (r .0)) destinations ≡ map (λ r. r .1) destinations
+unfolding admitted
+destinations-are = refl
+
+-- queries, and their regrouping: each destination is now also the source; a label in both lists, or a stage more, and
+-- there is none
+abbrev regroupings : List (List Stage × Option Stage)
+regroupings =
+    (group [] [] ∷ [], some (group [] []))
+    ∷ (
+      group (pairOf (2 ∷ 3 ∷ []) (5 ∷ []) ∷ []) (pairOf (1 ∷ []) (4 ∷ []) ∷ []) ∷ [],
+      some (group (pairOf (5 ∷ []) (5 ∷ []) ∷ []) (pairOf (4 ∷ []) (4 ∷ []) ∷ [])),
+    )
+    ∷ (group (pairOf (2 ∷ []) (4 ∷ []) ∷ []) (pairOf (1 ∷ []) (4 ∷ []) ∷ []) ∷ [], none)
+    ∷ (group [] [] ∷ group [] [] ∷ [], none)
+    ∷ (match always ∷ [], none)
+    ∷ []
+
+regroupings-are : map (λ r. regrouping (r .0)) regroupings ≡ map (λ r. r .1) regroupings
+unfolding admitted
+regroupings-are = refl

@@ -3,6 +3,7 @@ pub mod Query
 pub mod Bytes
 pub mod Decode
 pub mod Rules
+pub mod Again
 -- Laws.
 pub mod PathLaws
 pub mod CriterionLaws
@@ -10,4 +11,6 @@ pub mod DataLaws
 pub mod QueryLaws
 pub mod ByteLaws
 pub mod CutLaws
+pub mod AgainLaws
+pub mod RegroupingLaws
 pub mod Examples

@@ -1,12 +1,13 @@
 -- Stages other than group go tree by tree: over a joined list they give what they give over the parts, joined.
-use mathlib.Core.Path.{_≡_, refl, sym, ap, _∙_}
-use mathlib.Core.List.{List, [], _∷_, _++_, append-assoc}
+use mathlib.Core.Path.{_≡_, refl, ap, _∙_}
+use mathlib.Core.List.{List, [], _∷_, _++_}
 use mathlib.Core.Bool.{Bool, true, false, cond, _&&_}
 use mathlib.Core.Option.{Option, none, some, Option·map}
 use Prim.Native.Nat.{ℕ}
 use native.Mathlib.Omega.{arith}
 use Rattle.spec_trees.specs.Options.{_>>=_}
 use Rattle.spec_trees.specs.Lists.{filter, all, gather, each}
+use Rattle.spec_trees.specs.FilterLaws.{filter-append, all-append, gather-append}
 use Rattle.spec_trees.specs.Tree.{Tree}
 use Rattle.spec_trees.specs.Size.{fits}
 use Rattle.spec_queries.specs.Query.{Stage, match, unwind, project, group, lookup}
@@ -18,35 +19,11 @@ use Rattle.spec_stages.specs.Stages.{performed, leaving, isGroup, State,
 use Rattle.spec_stages.specs.Join.{beside, inTurn, GroupFree}
 
 -- ---- lists
-module _ {A : Type 0} where
-  -- both, or nothing
-  together : Option (List A) → Option (List A) → Option (List A)
-  together none y = none
-  together (some a) none = none
-  together (some a) (some b) = some (a ++ b)
-
-  filter-append : (f : A → Bool) (a b : List A) → filter f (a ++ b) ≡ filter f a ++ filter f b
-  unfolding filter
-  filter-append f [] b = refl
-  filter-append f (x ∷ a) b = go (f x) (filter-append f a b)
-    where
-      go : (c : Bool) → filter f (a ++ b) ≡ filter f a ++ filter f b → cond c (x ∷ filter f (a ++ b)) (filter f (a ++ b)) ≡ cond c (x ∷ filter f a) (filter f a) ++ filter f b
-      go true e = ap (λ y. x ∷ y) e
-      go false e = e
-
-  all-append : (f : A → Bool) (a b : List A) → all f (a ++ b) ≡ (all f a && all f b)
-  unfolding all
-  all-append f [] b = refl
-  all-append f (x ∷ a) b = go (f x) (all-append f a b)
-    where
-      go : (c : Bool) → all f (a ++ b) ≡ (all f a && all f b) → (c && all f (a ++ b)) ≡ ((c && all f a) && all f b)
-      go true e = e
-      go false e = refl
-
-pub gather-append : {A B : Type 0} (f : A → List B) (a b : List A) → gather f (a ++ b) ≡ gather f a ++ gather f b
-unfolding gather
-gather-append f [] b = refl
-gather-append f (x ∷ a) b = rw (gather-append f a b) (sym (append-assoc (f x) (gather f a) (gather f b)))
+-- both, or nothing
+together : {A : Type 0} → Option (List A) → Option (List A) → Option (List A)
+together none y = none
+together (some a) none = none
+together (some a) (some b) = some (a ++ b)
 
 each-append : {A B : Type 0} (f : A → Option B) (a b : List A) → each f (a ++ b) ≡ together (each f a) (each f b)
 unfolding each together _>>=_

@@ -18,7 +18,7 @@ use Rattle.spec_trees.specs.Tree.{Root, void, boolean, integer, text, Tree, nod
 use Rattle.spec_trees.specs.Size.{size, depth, fits, arraySize}
 use Rattle.spec_trees.specs.Within.{OkR, Ok, OkA, OkL, Allowed, AllowedA}
 use Rattle.spec_trees.specs.OptionLaws.{true-T, false-T, T-and, cond-cases}
-use Rattle.spec_trees.specs.ListLaws.{All-append, All-filter, All-map, All-gather, All-imply}
+use Rattle.spec_trees.specs.ListLaws.{All-append, All-filter, All-map, All-gather, All-imply, All-every}
 use Rattle.spec_queries.specs.Query.{Path, Route, Data, literal, path, listed, test, choice, reduced, Datas, ended, more, Item, keep, place, Pair, Stage, match, unwind, project, group, lookup, isDivisor}
 use Rattle.spec_queries.specs.Rules.{OkP, OkD, OkDs, OkI, OkPair, OkS}
 use Rattle.spec_queries.specs.PathLaws.{path-labels}
@@ -258,14 +258,11 @@ classes-ok e seen (t ∷ ts) o = cond-cases (All OkClass) (all (λ u. not (e u t
     (λ q. ((o .0, All-filter Ok (e t) ts (o .1)), classes-ok e (t ∷ seen) ts (o .1)))
     (λ q. classes-ok e (t ∷ seen) ts (o .1))
 
-any : {A : Type 0} (xs : List A) → All (λ x. Unit {0}) xs
-any [] = tt
-any (x ∷ xs) = (tt, any xs)
-
 grouped-ok : (gs : List Pair) (ts : List Tree) → OkTs ts → All OkClass (grouped gs ts)
 unfolding grouped having
 grouped-ok gs ts o = All-gather (λ m. Unit {0}) OkClass (λ m. classes (alike gs) [] (having gs m ts))
-    (λ m u. classes-ok (alike gs) [] (having gs m ts) (All-filter Ok (λ t. eqb (sum (key gs t)) m) ts o)) (upto (2 ^ length gs)) (any (upto (2 ^ length gs)))
+    (λ m u. classes-ok (alike gs) [] (having gs m ts) (All-filter Ok (λ t. eqb (sum (key gs t)) m) ts o))
+    (upto (2 ^ length gs)) (All-every (λ m. tt) (upto (2 ^ length gs)))
 
 target : (p : Pair) → OkPair p → Labelled (p .target)
 target p o = labelled (p .target) (o .1 .0)

@@ -9,6 +9,7 @@ use Rattle.spec_trees.specs.Limits.{depthMax, arrayMax}
 use Rattle.spec_trees.specs.Options.{_>>=_}
 use Rattle.spec_trees.specs.OptionLaws.{leb-yes, leb-no}
 use Rattle.spec_trees.specs.Lists.{All, filter, all, each}
+use Rattle.spec_trees.specs.ListLaws.{All-every}
 use Rattle.spec_trees.specs.Tree.{Tree, bareVoid}
 use Rattle.spec_trees.specs.Size.{arraySize, fits}
 use Rattle.spec_trees.specs.Within.{Allowed, AllowedA}
@@ -39,11 +40,7 @@ each-fits {A} P f h (c ∷ cs) p = go (f c) (each f cs) (λ y e. h c y (p .0) e)
 
 -- what is built from the bare void tree fits
 made-fits : {A : Type 0} (f : A → List Tree) (cs : List A) → leaving (each (λ c. build bareVoid (f c)) cs) ≡ each (λ c. build bareVoid (f c)) cs
-made-fits {A} f cs = each-fits (λ c. Unit {0}) (λ c. build bareVoid (f c)) (λ c y p e. build-fits bareVoid (f c) void-fits e) cs (any cs)
-  where
-    any : (xs : List A) → All (λ c. Unit {0}) xs
-    any [] = tt
-    any (x ∷ xs) = (tt, any xs)
+made-fits f cs = each-fits (λ c. Unit {0}) (λ c. build bareVoid (f c)) (λ c y p e. build-fits bareVoid (f c) void-fits e) cs (All-every (λ c. tt) cs)
 
 pub projected-leave : (is : List Item) (ts : List Tree) → leaving (each (projected is) ts) ≡ each (projected is) ts
 unfolding projected

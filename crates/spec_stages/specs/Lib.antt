@@ -13,16 +13,26 @@ pub mod Join
 pub mod Stretch
 pub mod Classes
 pub mod MergeTwo
+pub mod Keys
+pub mod Trays
 -- Laws.
 pub mod DecisionLaws
 pub mod EqualityLaws
+pub mod PathLaws
 pub mod MergeLaws
 pub mod MergeTwoLaws
 pub mod KeepLaws
 pub mod JoinLaws
+pub mod GoingLaws
 pub mod UnwoundLaws
 pub mod StageLaws
 pub mod StretchLaws
 pub mod LeaveLaws
+pub mod AlikeLaws
 pub mod ClassesLaws
+pub mod OnceLaws
+pub mod KeysLaws
+pub mod ReadLaws
+pub mod RegroupLaws
+pub mod TrayLaws
 pub mod Examples

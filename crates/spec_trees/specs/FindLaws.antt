@@ -1,16 +1,16 @@
--- A label that is searched among others, or put in the place of what stood there: by the first of them, and where they
--- rise.
+-- A label that is searched among others, or put in the place of what stood there: by the first of them, what is found
+-- after one was put, and where they rise.
 use mathlib.Core.Path.{_≡_, refl, sym, ap, subst, _∙_}
 use mathlib.Core.List.{List}
-use mathlib.Core.Bool.{Bool, true, false}
+use mathlib.Core.Bool.{Bool, true, false, cond}
 use mathlib.Core.Option.{some}
 use Prim.Native.Nat.{ℕ, _<_}
 use native.Mathlib.Omega.{arith}
-use lib.Dec.{eqb}
+use lib.Dec.{eqb, ltb}
 use borrow.Author.Tests.{eq-eqb, ne-eqb, eqb-true, eqb-false}
 use Rattle.spec_trees.specs.Tree.{Tree, Trees, Labels, bare, label, list, trees, find, put}
 use Rattle.spec_trees.specs.Within.{OkA, OkL}
-use Rattle.spec_trees.specs.OptionLaws.{ltb-no, some-equal}
+use Rattle.spec_trees.specs.OptionLaws.{ltb-no, split, apart, some-equal}
 use Rattle.spec_trees.specs.SizeLaws.{trees-list}
 
 -- ---- by the first label
@@ -34,7 +34,21 @@ pub no-label : (k : ℕ) (a : List Tree) → find k bare ≡ some a → ⊥
 unfolding find
 no-label k a e = let z : _≡_ {A = ℕ} 0 1 = cc in omega arith
 
--- a label that is found among rising labels: here, or later, and then it is above the first
+-- ---- among all labels
+pub find-put : (i k : ℕ) (a : Trees) (ls : Labels) → find i (put k a ls) ≡ cond (eqb i k) (some (list a)) (find i ls)
+unfolding find put
+find-put i k a bare = refl
+find-put i k a (label j b ls) =
+    split (ltb k j)
+    (λ z. rw z refl)
+    (λ z. rw z (split (eqb k j)
+    (λ y. let e = ap (eqb i) (sym (eqb-true k j y)) in rw (y, e) (split (eqb i k) (λ q. rw q refl) (λ q. rw q refl)))
+    (λ y. rw (y, find-put i k a ls) (split (eqb i k)
+    (λ q. let e = ne-eqb i j (λ p. apart (eq-eqb k j (sym (eqb-true i k q) ∙ p)) y) in rw (q, e) refl)
+    (λ q. rw q refl)))))
+
+-- ---- among rising labels
+-- one that is found: here, or later, and then it is above the first
 module _ (k : ℕ) (a : List Tree) where
   pub find-above : (ls : Labels) (m : ℕ) → OkL ls m → find k ls ≡ some a → m < k
   find-above bare m o e = absurd (no-label k a e)

@@ -11,6 +11,7 @@ pub mod Within
 -- Laws.
 pub mod OptionLaws
 pub mod ListLaws
+pub mod FilterLaws
 pub mod FieldLaws
 pub mod ReaderLaws
 pub mod NumberLaws

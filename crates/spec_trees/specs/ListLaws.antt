@@ -1,6 +1,7 @@
 -- `All` of parts of lists, for every property.
+use mathlib.Core.Path.{_≡_}
 use mathlib.Core.List.{List, [], _∷_, _++_, map, reverse, reverseAux}
-use mathlib.Core.Bool.{Bool}
+use mathlib.Core.Bool.{Bool, true}
 use Prim.Native.Nat.{ℕ, zero, suc, _<_}
 use native.Mathlib.Omega.{arith}
 use lib.ListN.{length, take, drop, getD}
@@ -46,6 +47,17 @@ module _ {A : Type 0} (P : A → Type 0) where
   pub All-of : (d : A) (xs : List A) → ((i : ℕ) → i < length xs → P (getD xs i d)) → All P xs
   All-of d [] h = tt
   All-of d (x ∷ xs) h = (h 0 (omega arith), All-of d xs (λ i l. h (suc i) (omega arith)))
+
+-- what holds of every element holds of those of a list
+pub All-every : {A : Type 0} {P : A → Type 0} → ((x : A) → P x) → (xs : List A) → All P xs
+All-every h [] = tt
+All-every h (x ∷ xs) = (h x, All-every h xs)
+
+-- what passed a test passes it
+pub All-passed : {A : Type 0} (f : A → Bool) (xs : List A) → All (λ x. f x ≡ true) (filter f xs)
+unfolding filter
+All-passed f [] = tt
+All-passed f (x ∷ xs) = cond-cases (All (λ y. f y ≡ true)) (f x) (λ e. (e, All-passed f xs)) (λ e. All-passed f xs)
 
 pub All-imply : {A : Type 0} (P Q : A → Type 0) → ((x : A) → P x → Q x) → (xs : List A) → All P xs → All Q xs
 All-imply P Q h [] o = tt

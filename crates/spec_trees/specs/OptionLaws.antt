@@ -1,6 +1,6 @@
 -- What a test that passed says, and what a value that is there came from.
 use mathlib.Core.Path.{_≡_, refl, sym, subst}
-use mathlib.Core.Bool.{Bool, true, false, cond, not, _&&_}
+use mathlib.Core.Bool.{Bool, true, false, cond, not, _&&_, true≢false}
 use mathlib.Core.Option.{Option, none, some, Option·map}
 use Prim.Native.Nat.{ℕ, suc, _≤_, _<_}
 use native.Mathlib.Omega.{arith}
@@ -27,6 +27,14 @@ pub T-and : (a b : Bool) → T (a && b) → T a × T b
 T-and true b h = (tt, h)
 T-and false b h = absurd h
 
+-- no test both passes and fails
+pub apart : {P : Type 0} {b : Bool} → b ≡ true → b ≡ false → P
+apart e f = absurd (true≢false (cc))
+
+pub both-true : (a b : Bool) → (a && b) ≡ true → (a ≡ true) × (b ≡ true)
+both-true true b e = (refl, e)
+both-true false b e = apart e refl
+
 pub leb-yes : (m n : ℕ) → m ≤ n → leb m n ≡ true
 leb-yes m n h = T-true (leb m n) (le→leb m n h)
 
@@ -43,6 +51,10 @@ pub eqb-same : (n : ℕ) → eqb n n ≡ true
 eqb-same n = T-true (eqb n n) (eqb-refl n)
 
 -- by cases, with what the test gave
+pub split : {P : Type 0} (b : Bool) → (b ≡ true → P) → (b ≡ false → P) → P
+split true f g = f refl
+split false f g = g refl
+
 pub cond-cases : {A : Type 0} (P : A → Type 0) (b : Bool) {x y : A} → (b ≡ true → P x) → (b ≡ false → P y) → P (cond b x y)
 cond-cases P true f g = f refl
 cond-cases P false f g = g refl

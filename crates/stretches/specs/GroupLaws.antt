@@ -14,6 +14,7 @@ use Rattle.spec_trees.specs.Options.{_>>=_}
 use Rattle.spec_trees.specs.OptionLaws.{true-T, some-equal}
 use Rattle.spec_trees.specs.Lists.{filter, All, gather, each}
 use Rattle.spec_trees.specs.ListLaws.{All-append, All-filter, All-map}
+use Rattle.spec_trees.specs.FilterLaws.{gather-append}
 use Rattle.spec_trees.specs.Limits.{depthMax, groupingMax, workMin}
 use Rattle.spec_trees.specs.Tree.{Tree, bareVoid}
 use Rattle.spec_trees.specs.Size.{fits}
@@ -32,7 +33,7 @@ use Rattle.spec_stages.specs.Merge.{merge, build}
 use Rattle.spec_stages.specs.Group.{alike, Class, upto, grouped, aggregated, identified, sourced, classTree}
 use Rattle.spec_stages.specs.Stages.{going, large, after, stages}
 use Rattle.spec_stages.specs.Join.{beside}
-use Rattle.spec_stages.specs.JoinLaws.{gather-append, each-join}
+use Rattle.spec_stages.specs.JoinLaws.{each-join}
 use Rattle.spec_stages.specs.KeepLaws.{merge-ok, over-ok, apply-ok, labelled, placed-ok, allowed-ok, fits-allowed}
 use Rattle.group.specs.Keys.{FewPairs}
 use Rattle.group.specs.KeyLaws.{few-pairs}
@@ -42,6 +43,7 @@ use Rattle.build.specs.Made.{Made}
 use Rattle.group.specs.First.{BeginsReady, BeginsIs}
 use Rattle.spec_stages.specs.Classes.{begins, scan}
 use Rattle.spec_stages.specs.ClassesLaws.{grouped-scan}
+use Rattle.spec_stages.specs.OnceLaws.{gather-upto}
 use Rattle.group.specs.Class.{ClassReady, MakesClass}
 use Rattle.queries.specs.TreesLaws.{ArrayParts, array-parts, array-none}
 use Rattle.stream.specs.declared.collector.Collector.{Collector}
@@ -408,10 +410,6 @@ upto-rest k (suc d) =
     let z : k + suc d ≡ k + d + 1 = omega arith in
     (r .0 ++ ((k + d) ∷ []), ap upto z ∙ upto-more (k + d) ∙ ap (λ l. l ++ ((k + d) ∷ [])) (r .1) ∙ append-assoc (upto k) (r .0) ((k + d) ∷ []))
 
-gather-one : (f : ℕ → List Class) (k : ℕ) → gather f (k ∷ []) ≡ f k
-unfolding gather
-gather-one f k = append-nil (f k)
-
 gather-zero : (f : ℕ → List Class) → gather f (upto 0) ≡ []
 unfolding gather upto
 gather-zero f = refl
@@ -454,9 +452,7 @@ module _ {w₀ : List ℕ} {n : ℕ} {q : List ℕ} {at : StretchAt} {j : List �
 
     module _ (ne : k ≡ total → ⊥) {y : List ℕ} {r : Collector} (l : length y ≡ length w) (p : SubsetFed w y n q at k j s r) where
       found-more : (gs : List Pair) (ts : List Tree) → found gs ts (k + 1) ≡ found gs ts k ++ scan gs k [] ts
-      found-more gs ts =
-          let a : ℕ → List Class = λ b. scan gs b [] ts in
-          ap (gather a) (upto-more k) ∙ gather-append a (upto k) (k ∷ []) ∙ ap (λ b. found gs ts k ++ b) (gather-one a k)
+      found-more gs ts = let z : k + 1 ≡ suc k = omega arith in ap (found gs ts) z ∙ gather-upto (λ b. scan gs b [] ts) k
 
       next : (ags gs : List Pair) (ts : List Tree) (ss : List Stage) (us : List Tree) → Pairs q (at .group) ags gs → Gathered w₀ n ts → Planned q (at .next) j ss us
           → Feeds w₀ (Len 0) y r (through us ss ags gs (found gs ts (k + 1)))
