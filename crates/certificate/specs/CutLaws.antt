@@ -10,7 +10,7 @@ use Rattle.spec_trees.specs.OptionLaws.{leb-yes}
 use Rattle.spec_trees.specs.Within.{AllBytes}
 use Rattle.spec_run.specs.Run.{Call, call, zeros, workAfter, outcomeOf, plainRun, resultBytes}
 use Rattle.spec_run.specs.declared.answer.Answer.{Answer}
-use Rattle.spec_run.specs.RunLaws.{length-most, result-length}
+use Rattle.spec_run.specs.RunLaws.{run-short, result-length}
 use Rattle.spec_run.specs.CutLaws.{cut}
 use Rattle.spec_run.specs.Answer.{numbered, lengthened, Answered}
 use Rattle.certificate.specs.declared.cut.Runs.{Runs}
@@ -18,7 +18,7 @@ use Rattle.certificate.specs.Cut.{work, MakesRuns, CutSame}
 
 -- a run's result stands in its result area
 pub answered-within : {c : Call} {n l : ℕ} {left w : List ℕ} → Answered c n l left w → l ≤ length left
-answered-within {c} h = omega (arith, h .length-is, length-most c .left, ap length (h .result-is))
+answered-within {c} h = omega (arith, h .length-is, run-short c .left, ap length (h .result-is))
 
 -- a run in the zero work area leaves it zero
 pub work-again : {q i j r : List ℕ} {n l : ℕ} {left w : List ℕ} → Answered (call q i j work r) n l left w → w ≡ work

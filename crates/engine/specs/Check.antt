@@ -1,4 +1,4 @@
--- Tests 1 to 7 by the answers of the checks, in their order.
+-- The tests of a run by the answers of the checks, in their order.
 use mathlib.Core.List.{List}
 use mathlib.Core.Bool.{cond}
 use Prim.Native.Nat.{ℕ}
@@ -32,11 +32,14 @@ abbrev pub next : CallCheck → CallCheck → CallCheck
 next Passed y = y
 next (Refused r) y = Refused r
 
+-- tests 1 to 3: the query, and the length of the work area
+unfoldable pub preparedCheck : List ℕ → ℕ → CallCheck
+preparedCheck q work = cond (leb workMin work) (decided (checkOf (readQuery q)) QueryLong QueryMalformed) (Refused WorkShort)
+
+-- an input, and a second array with its refusals
+unfoldable pub arraysCheck : List ℕ → List ℕ → Refusal → Refusal → CallCheck
+arraysCheck a b r s = next (decided (checkOf (readArray a)) InputLong InputMalformed) (decided (checkOf (readArray b)) r s)
+
 -- query, input, joined array, the length of the work area
 unfoldable pub callCheck : List ℕ → List ℕ → List ℕ → ℕ → CallCheck
-callCheck q i j work =
-    cond (leb workMin work)
-    (next (decided (checkOf (readQuery q)) QueryLong QueryMalformed)
-    (next (decided (checkOf (readArray i)) InputLong InputMalformed)
-    (decided (checkOf (readArray j)) JoinedLong JoinedMalformed)))
-    (Refused WorkShort)
+callCheck q i j work = next (preparedCheck q work) (arraysCheck i j JoinedLong JoinedMalformed)

@@ -1,4 +1,4 @@
--- Laws of tests 1 to 7: the code's answer, and what the plain run comes to by it.
+-- Laws of the tests: the code's answer, and what the plain answer comes to by it.
 use mathlib.Core.Path.{_≡_, refl, sym, ap, subst, _∙_}
 use mathlib.Core.List.{List}
 use mathlib.Core.Bool.{Bool, true, false, cond}
@@ -24,29 +24,38 @@ use Rattle.spec_run.specs.Run.{Call, Verdict, refused, reading, final, verdictO
 use Rattle.spec_run.specs.RunLaws.{Reads}
 use Rattle.engine.specs.declared.check.CallCheck.{CallCheck}
 use Rattle.engine.specs.declared.check.CallCheck.the-variants.{Passed, Refused}
-use Rattle.engine.specs.Check.{decided, checkedAs, next, callCheck}
+use Rattle.engine.specs.Check.{decided, checkedAs, next, preparedCheck, arraysCheck, callCheck}
+use Rattle.engine.specs.RegroupCheck.{Early}
 
 -- ---- the code's tests, one after another
-module _ (q i j : List ℕ) (work : ℕ) where
-  pub check-short : work < workMin → Refused WorkShort ≡ callCheck q i j work
+module _ (q : List ℕ) (work : ℕ) where
+  pub prepared-short : work < workMin → Refused WorkShort ≡ preparedCheck q work
+  unfolding preparedCheck
+  prepared-short l = rw (leb-no workMin work l) refl
+
+  pub prepared-query : workMin ≤ work → {a : CallCheck} → a ≡ decided (checkOf (readQuery q)) QueryLong QueryMalformed → a ≡ preparedCheck q work
+  unfolding preparedCheck
+  prepared-query l z = rw (leb-yes workMin work l) z
+
+module _ (a b : List ℕ) (r s : Refusal) {x : CallCheck} (z : x ≡ decided (checkOf (readArray a)) InputLong InputMalformed) where
+  pub arrays-first : {t : Refusal} → x ≡ Refused t → x ≡ arraysCheck a b r s
+  unfolding arraysCheck
+  arrays-first y = rw (sym z, y) refl
+
+  pub arrays-second : x ≡ Passed → {o : CallCheck} → o ≡ decided (checkOf (readArray b)) r s → o ≡ arraysCheck a b r s
+  unfolding arraysCheck
+  arrays-second y w = rw (sym z, y) w
+
+module _ (q i j : List ℕ) (work : ℕ) {x : CallCheck} (z : x ≡ preparedCheck q work) where
+  pub call-prepared : {t : Refusal} → x ≡ Refused t → x ≡ callCheck q i j work
   unfolding callCheck
-  check-short l = rw (leb-no workMin work l) refl
+  call-prepared y = rw (sym z, y) refl
 
-  module _ (l : workMin ≤ work) {a : CallCheck} (za : a ≡ decided (checkOf (readQuery q)) QueryLong QueryMalformed) where
-    pub check-query : {r : Refusal} → a ≡ Refused r → a ≡ callCheck q i j work
-    unfolding callCheck
-    check-query z = rw (leb-yes workMin work l, sym za, z) refl
+  pub call-arrays : x ≡ Passed → {o : CallCheck} → o ≡ arraysCheck i j JoinedLong JoinedMalformed → o ≡ callCheck q i j work
+  unfolding callCheck
+  call-arrays y w = rw (sym z, y) w
 
-    module _ (ya : a ≡ Passed) {b : CallCheck} (zb : b ≡ decided (checkOf (readArray i)) InputLong InputMalformed) where
-      pub check-input : {r : Refusal} → b ≡ Refused r → b ≡ callCheck q i j work
-      unfolding callCheck
-      check-input z = rw (leb-yes workMin work l, sym za, ya, sym zb, z) refl
-
-      pub check-joined : b ≡ Passed → {o : CallCheck} → o ≡ decided (checkOf (readArray j)) JoinedLong JoinedMalformed → o ≡ callCheck q i j work
-      unfolding callCheck
-      check-joined yb z = rw (leb-yes workMin work l, sym za, ya, sym zb, yb) z
-
--- ---- a call that passed: what its pieces hold
+-- ---- pieces that passed: what they hold
 piece-read : {A : Type 0} (x : Tested A) (r s : Refusal) → decided (checkOf x) r s ≡ Passed → (a : A) × (x ≡ accepted a)
 piece-read (accepted a) r s e = (a, refl)
 piece-read overlong r s e = let z : _≡_ {A = ℕ} 0 1 = cc in absurd (omega arith)
@@ -56,39 +65,35 @@ next-both : (a b : CallCheck) → next a b ≡ Passed → (a ≡ Passed) × (b �
 next-both Passed b e = (refl, e)
 next-both (Refused r) b e = let z : _≡_ {A = ℕ} 0 1 = cc in absurd (omega arith)
 
+pub prepared-read : (q : List ℕ) (work : ℕ) → preparedCheck q work ≡ Passed → (workMin ≤ work) × ((ss : List Stage) × (readQuery q ≡ accepted ss))
+unfolding preparedCheck
+prepared-read q work e = go (leb workMin work) refl e
+  where
+    go : (t : Bool) → leb workMin work ≡ t → cond t (decided (checkOf (readQuery q)) QueryLong QueryMalformed) (Refused WorkShort) ≡ Passed
+        → (workMin ≤ work) × ((ss : List Stage) × (readQuery q ≡ accepted ss))
+    go false l z = let y : _≡_ {A = ℕ} 0 1 = cc in absurd (omega arith)
+    go true l z = (leb-true workMin work l, piece-read (readQuery q) QueryLong QueryMalformed z)
+
+pub arrays-read : (a b : List ℕ) (r s : Refusal) → arraysCheck a b r s ≡ Passed
+    → ((ts : List Tree) × (readArray a ≡ accepted ts)) × ((us : List Tree) × (readArray b ≡ accepted us))
+unfolding arraysCheck
+arrays-read a b r s e =
+    let (za, zb) = next-both (decided (checkOf (readArray a)) InputLong InputMalformed) (decided (checkOf (readArray b)) r s) e in
+    (piece-read (readArray a) InputLong InputMalformed za, piece-read (readArray b) r s zb)
+
 -- of the call c
 abbrev checkOfCall : Call → CallCheck
 checkOfCall c = callCheck (c .query) (c .input) (c .joined) (length (c .work))
 
 pub passed-reads : (c : Call) → checkOfCall c ≡ Passed → (ss : List Stage) × (ts : List Tree) × (us : List Tree) × Reads c ss ts us
 unfolding callCheck
-passed-reads c e = go (leb workMin (length (c .work))) refl e
-  where
-    a : CallCheck
-    a = decided (checkOf (readQuery (c .query))) QueryLong QueryMalformed
+passed-reads c e =
+    let (zp, za) = next-both (preparedCheck (c .query) (length (c .work))) (arraysCheck (c .input) (c .joined) JoinedLong JoinedMalformed) e in
+    let (l, (ss, es)) = prepared-read (c .query) (length (c .work)) zp in
+    let ((ts, et), (us, eu)) = arrays-read (c .input) (c .joined) JoinedLong JoinedMalformed za in
+    (ss, ts, us, record { enough = l; query = es; input = et; joined = eu })
 
-    b : CallCheck
-    b = decided (checkOf (readArray (c .input))) InputLong InputMalformed
-
-    d : CallCheck
-    d = decided (checkOf (readArray (c .joined))) JoinedLong JoinedMalformed
-
-    go : (t : Bool) → leb workMin (length (c .work)) ≡ t → cond t (next a (next b d)) (Refused WorkShort) ≡ Passed
-        → (ss : List Stage) × (ts : List Tree) × (us : List Tree) × Reads c ss ts us
-    go false l z = let y : _≡_ {A = ℕ} 0 1 = cc in absurd (omega arith)
-    go true l z =
-        let (za, zr) = next-both a (next b d) z in
-        let (zb, zd) = next-both b d zr in
-        let (ss, es) = piece-read (readQuery (c .query)) QueryLong QueryMalformed za in
-        let (ts, et) = piece-read (readArray (c .input)) InputLong InputMalformed zb in
-        let (us, eu) = piece-read (readArray (c .joined)) JoinedLong JoinedMalformed zd in
-        (ss, ts, us, record { enough = leb-true workMin (length (c .work)) l; query = es; input = et; joined = eu })
-
--- ---- a call that is refused: the plain run is refused so too, and the result area is left as it was
-pub record Early (x : Verdict) (r : Refusal) : Type 0 where
-  pub refuses : x ≡ refused r
-  pub keeps : keepsResult r ≡ true
-
+-- ---- pieces that are refused: the plain answer is refused so too, and the result area is left as it was
 refused-equal : (r t : Refusal) → Refused r ≡ Refused t → r ≡ t
 refused-equal r t e = cc
 
@@ -97,12 +102,13 @@ early-is {r} {t} k e = subst (Early (refused r)) (refused-equal r t e) record { 
 
 -- a piece, before the tests behind it
 piece-refused : {A : Type 0} (x : Tested A) (r s t : Refusal) (f : A → Verdict) (o : CallCheck) → keepsResult r ≡ true → keepsResult s ≡ true
-    → ((a : A) → o ≡ Refused t → Early (f a) t) → next (decided (checkOf x) r s) o ≡ Refused t → Early (reading x r s f) t
+    → ((a : A) → x ≡ accepted a → o ≡ Refused t → Early (f a) t) → next (decided (checkOf x) r s) o ≡ Refused t → Early (reading x r s f) t
 unfolding reading
-piece-refused (accepted a) r s t f o kr ks h e = h a e
+piece-refused (accepted a) r s t f o kr ks h e = h a refl e
 piece-refused overlong r s t f o kr ks h e = early-is kr e
 piece-refused malformed r s t f o kr ks h e = early-is ks e
 
+-- the last one
 last-refused : {A : Type 0} (x : Tested A) (r s t : Refusal) (f : A → Verdict) → keepsResult r ≡ true → keepsResult s ≡ true
     → decided (checkOf x) r s ≡ Refused t → Early (reading x r s f) t
 unfolding reading
@@ -110,30 +116,29 @@ last-refused (accepted a) r s t f kr ks e = let y : _≡_ {A = ℕ} 0 1 = cc in 
 last-refused overlong r s t f kr ks e = early-is kr e
 last-refused malformed r s t f kr ks e = early-is ks e
 
+-- the two arrays, whatever comes behind them
+pub arrays-refused : (a b : List ℕ) (r s t : Refusal) (f : List Tree → List Tree → Verdict) → keepsResult r ≡ true → keepsResult s ≡ true
+    → arraysCheck a b r s ≡ Refused t → Early (reading (readArray a) InputLong InputMalformed λ ts. reading (readArray b) r s (f ts)) t
+unfolding arraysCheck keepsResult
+arrays-refused a b r s t f kr ks e = piece-refused (readArray a) InputLong InputMalformed t _ (decided (checkOf (readArray b)) r s) refl refl
+    (λ ts y. last-refused (readArray b) r s t (f ts) kr ks) e
+
+-- the work area and the query, and then a check o of what comes behind them
+pub prepared-refused : (q : List ℕ) (work : ℕ) (t : Refusal) (f : List Stage → Verdict) (o : CallCheck)
+    → ((ss : List Stage) → readQuery q ≡ accepted ss → o ≡ Refused t → Early (f ss) t) → next (preparedCheck q work) o ≡ Refused t
+    → Early (cond (leb workMin work) (reading (readQuery q) QueryLong QueryMalformed f) (refused WorkShort)) t
+unfolding preparedCheck keepsResult
+prepared-refused q work t f o h e = go (leb workMin work) e
+  where
+    go : (b : Bool) → next (cond b (decided (checkOf (readQuery q)) QueryLong QueryMalformed) (Refused WorkShort)) o ≡ Refused t
+        → Early (cond b (reading (readQuery q) QueryLong QueryMalformed f) (refused WorkShort)) t
+    go false z = early-is refl z
+    go true z = piece-refused (readQuery q) QueryLong QueryMalformed t f o refl refl h z
+
 pub refused-early : (c : Call) (r : Refusal) → checkOfCall c ≡ Refused r → Early (verdict c) r
 unfolding callCheck verdict verdictOf keepsResult
-refused-early c r e = go (leb workMin (length (c .work))) e
-  where
-    b : CallCheck
-    b = decided (checkOf (readArray (c .input))) InputLong InputMalformed
-
-    d : CallCheck
-    d = decided (checkOf (readArray (c .joined))) JoinedLong JoinedMalformed
-
-    ends : List Stage → List Tree → List Tree → Verdict
-    ends ss ts us = final (length (c .result)) (stages us ss (going ts))
-
-    pieces : next (decided (checkOf (readQuery (c .query))) QueryLong QueryMalformed) (next b d) ≡ Refused r
-        → Early (reading (readQuery (c .query)) QueryLong QueryMalformed λ ss. reading (readArray (c .input)) InputLong InputMalformed λ ts. reading (readArray (c .joined)) JoinedLong JoinedMalformed (ends ss ts)) r
-    pieces =
-        piece-refused (readQuery (c .query)) QueryLong QueryMalformed r _ (next b d) refl refl
-        (λ ss. piece-refused (readArray (c .input)) InputLong InputMalformed r _ d refl refl
-        (λ ts. last-refused (readArray (c .joined)) JoinedLong JoinedMalformed r (ends ss ts) refl refl))
-
-    go : (t : Bool) → cond t (next (decided (checkOf (readQuery (c .query))) QueryLong QueryMalformed) (next b d)) (Refused WorkShort) ≡ Refused r
-        → Early (cond t (reading (readQuery (c .query)) QueryLong QueryMalformed λ ss. reading (readArray (c .input)) InputLong InputMalformed λ ts. reading (readArray (c .joined)) JoinedLong JoinedMalformed (ends ss ts)) (refused WorkShort)) r
-    go false z = early-is refl z
-    go true z = pieces z
+refused-early c r e = prepared-refused (c .query) (length (c .work)) r _ (arraysCheck (c .input) (c .joined) JoinedLong JoinedMalformed)
+    (λ ss y. arrays-refused (c .input) (c .joined) JoinedLong JoinedMalformed r (λ ts us. final (length (c .result)) (stages us ss (going ts))) refl refl) e
 
 -- ---- a call that only checks has the table's numbers
 pub checked-number : {A : Type 0} (x : Tested A) (r s : Refusal) → checkedAs (checkOf x) r s ≡ checkNumber x r s

@@ -1,15 +1,19 @@
 -- What the stages and the end of a call that passed its tests come to.
 use mathlib.Core.Path.{_≡_}
-use mathlib.Core.List.{List}
+use mathlib.Core.List.{List, [], _∷_, _++_}
+use mathlib.Core.Bool.{true}
 use Prim.Native.Nat.{ℕ}
 use lib.ListN.{length}
 use Rattle.spec_trees.specs.Tree.{Tree}
 use Rattle.spec_trees.specs.Bytes.{arrayBytes}
 use Rattle.spec_trees.specs.Within.{Within}
-use Rattle.spec_queries.specs.Query.{Stage}
+use Rattle.spec_queries.specs.Query.{Pair, Stage}
 use Rattle.spec_queries.specs.Bytes.{queryBytes}
 use Rattle.spec_queries.specs.Rules.{OkQ}
+use Rattle.spec_queries.specs.Again.{distinctTargets, regrouped}
 use Rattle.spec_stages.specs.Stages.{going, stages}
+use Rattle.queries.specs.declared.stage.GroupAt.{GroupAt}
+use Rattle.stretches.specs.Stretch.{Pairs}
 use Rattle.spec_run.specs.declared.answer.Answer.{Answer}
 use Rattle.spec_run.specs.Run.{final}
 use Rattle.spec_run.specs.Answer.{AnswersAs}
@@ -18,3 +22,8 @@ use Rattle.spec_run.specs.Answer.{AnswersAs}
 abbrev pub Performs : (q i j area left : List ℕ) → Answer → Type 0
 Performs q i j area left a = (ss : List Stage) (ts us : List Tree) → q ≡ queryBytes ss → OkQ ss → i ≡ arrayBytes ts → Within ts → j ≡ arrayBytes us → Within us
     → AnswersAs area (final (length area) (stages us ss (going ts))) a left
+
+-- the regrouping call: whatever group and arrays they are, the verdict is the plain regrouping's
+abbrev pub PerformsAgain : (q : List ℕ) (at : GroupAt) (a b area left : List ℕ) → Answer → Type 0
+PerformsAgain q at a b area left o = (ag gs : List Pair) (ts us : List Tree) → Pairs q at ag gs → distinctTargets ag gs ≡ true
+    → a ≡ arrayBytes ts → Within ts → b ≡ arrayBytes us → Within us → AnswersAs area (final (length area) (stages [] (regrouped ag gs ∷ []) (going (ts ++ us)))) o left

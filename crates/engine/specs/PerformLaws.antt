@@ -24,13 +24,39 @@ use Rattle.spec_run.specs.declared.answer.Refusal.the-variants.{ResultLong}
 use Rattle.spec_run.specs.declared.answer.Answer.{Answer}
 use Rattle.spec_run.specs.declared.answer.Answer.the-variants.{Refused}
 use Rattle.engine.specs.declared.check.CallCheck.the-variants as check-is
-use Rattle.spec_run.specs.Run.{Call, numberIn, lengthIn, resultAfter, zeros, workAfter, outcomeOf, plainRun}
+use Rattle.spec_run.specs.Run.{Call, Verdict, verdict, numberIn, lengthIn, resultAfter, zeros, workAfter, outcomeOf, plainRun}
 use Rattle.spec_run.specs.RunLaws.{reads-verdict}
-use Rattle.spec_run.specs.Answer.{numbered, lengthened, Answered}
+use Rattle.spec_run.specs.Answer.{numbered, lengthened, Answered, AnswersAs}
+use Rattle.spec_run.specs.AnswerLaws.{AnsweredBy, by-run}
 use Rattle.engine.specs.Check.{callCheck}
+use Rattle.engine.specs.RegroupCheck.{Early}
 use Rattle.engine.specs.CheckLaws.{passed-reads, refused-early}
 use Rattle.engine.specs.Finish.{FinishReady, Finishes}
 use Rattle.engine.specs.Perform.{Performs}
+
+-- ---- the outcome, by the verdict x on a result area and a work area
+module _ (area work : List ℕ) (x : Verdict) where
+  -- it came to an end: the answer is the verdict's, and the work area was cleared
+  pub ended-answered : workMin ≤ length work → {a : Answer} {left cleared : List ℕ} → AnswersAs area x a left → cleared ≡ replicate (length work) 0
+      → AnsweredBy (outcomeOf area work x) (numbered a) (lengthened a) left cleared
+  unfolding outcomeOf workAfter zeros
+  ended-answered l k e = record {
+    number-is = k .number-is;
+    length-is = k .length-is;
+    result-is = k .result-is;
+    work-is = e ∙ sym (ap (λ b. cond b (replicate (length work) 0) work) (leb-yes workMin (length work) l));
+  }
+
+  -- it was refused before the stages
+  pub early-answered : {r : Refusal} → Early x r → {a : Answer} {cleared : List ℕ} → a ≡ Refused r
+      → cleared ≡ cond (leb workMin (length work)) (replicate (length work) 0) work → AnsweredBy (outcomeOf area work x) (numbered a) (lengthened a) area cleared
+  unfolding outcomeOf numberIn lengthIn resultAfter workAfter zeros
+  early-answered y e w = record {
+    number-is = ap numbered e ∙ sym (ap numberIn (y .refuses));
+    length-is = ap lengthened e ∙ sym (ap lengthIn (y .refuses));
+    result-is = sym (ap (resultAfter area) (y .refuses) ∙ ap (λ b. cond b area (zeros area)) (y .keeps));
+    work-is = w;
+  }
 
 -- ---- the stages, and then the end
 module _ {q i j w : List ℕ} {r : Ended} (k : Runs q i j w r) where
@@ -70,34 +96,22 @@ module _ (c : Call) (bq : AllBytes (c .query)) (bi : AllBytes (c .input)) (bj : 
 
   pub passed-answered : {a : Answer} {left work : List ℕ} → Performs (c .query) (c .input) (c .joined) (c .result) left a → work ≡ replicate (length (c .work)) 0
       → Answered c (numbered a) (lengthened a) left work
-  unfolding plainRun outcomeOf workAfter zeros
+  unfolding plainRun
   passed-answered {a} {left} {work} p e =
       let (ss, ts, us, r) = passed-reads c z in
       let s = query-only (c .query) ss bq (read-query (c .query) ss .0 (r .query)) in
       let t = array-only (c .input) ts bi (read-array (c .input) ts .0 (r .input)) in
       let u = array-only (c .joined) us bj (read-array (c .joined) us .0 (r .joined)) in
-      let v = reads-verdict c ss ts us r in
       let k = p ss ts us (sym (s .0)) (s .1) (sym (t .0)) (t .1) (sym (u .0)) (u .1) in
-      record {
-        number-is = k .number-is ∙ sym (ap numberIn v);
-        length-is = k .length-is ∙ sym (ap lengthIn v);
-        result-is = k .result-is ∙ sym (ap (resultAfter (c .result)) v);
-        work-is = e ∙ sym (ap (λ b. cond b (replicate (length (c .work)) 0) (c .work)) (leb-yes workMin (length (c .work)) (r .enough)));
-      }
+      by-run (ended-answered (c .result) (c .work) (verdict c) (r .enough)
+      (subst (λ v. AnswersAs (c .result) v a left) (sym (reads-verdict c ss ts us r)) k) e)
 
 -- ---- a call that is refused by its tests
 pub refused-answered : (c : Call) {r : Refusal} → callCheck (c .query) (c .input) (c .joined) (length (c .work)) ≡ check-is.Refused r
     → {a : Answer} {work : List ℕ} → a ≡ Refused r → work ≡ cond (leb workMin (length (c .work))) (replicate (length (c .work)) 0) (c .work)
     → Answered c (numbered a) (lengthened a) (c .result) work
-unfolding plainRun outcomeOf numberIn lengthIn resultAfter workAfter zeros
-refused-answered c {r} z {a} e w =
-    let y = refused-early c r z in
-    record {
-      number-is = ap numbered e ∙ sym (ap numberIn (y .refuses));
-      length-is = ap lengthened e ∙ sym (ap lengthIn (y .refuses));
-      result-is = sym (ap (resultAfter (c .result)) (y .refuses) ∙ ap (λ b. cond b (c .result) (zeros (c .result))) (y .keeps));
-      work-is = w;
-    }
+unfolding plainRun
+refused-answered c {r} z e w = by-run (early-answered (c .result) (c .work) (verdict c) (refused-early c r z) e w)
 
 -- ---- the work area's first part comes back, and all of it is cleared
 pub lent-length : (n : ℕ) (w y : List ℕ) → n ≤ length w → length y ≡ length (take n w) → length (y ++ drop n w) ≡ length w

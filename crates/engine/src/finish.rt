@@ -1,17 +1,33 @@
-//! The end of a run: the array that the stages gave is written to the result area, or the area is cleared.
+//! The end of a call: the array that the stages gave is written to the result area, or the area is cleared; or the call
+//! is refused before the stages.
 ghost use mathlib.Core.Path.{_≡_};
 ghost use mathlib.Core.List.{_++_};
+ghost use mathlib.Core.Bool.{cond};
 ghost use lib.ListN.{length, replicate};
+ghost use lib.Dec.{leb};
+ghost use Rattle.spec_trees.specs.Limits.{workMin};
 ghost use Rattle.areas.specs.Area.{headBytes};
 ghost use Rattle.engine.specs.Finish.{ArrayReady, AcceptReady, Accepts, FinishReady, Finishes};
 use areas::area::clear;
 use areas::area::emit;
 use areas::area::field_end;
 use areas::area::put_head;
+use format::limits::Limits;
 use spec_run::answer::Answer;
 use spec_run::answer::Refusal;
 use stream::map::Map;
 use stretches::ended::Ended;
+
+/// A refusal before the stages: the work area is zero, unless it is too short; the result area is not touched.
+pub fn refuse(refusal: Refusal, work: &mut [u8]) -> Answer
+    ensures { λ a. ⌜ (a ≡ Answer.Refused refusal) × (now (work .exit) ≡ cond (leb workMin (length (now (work .entry)))) (replicate (length (now (work .entry))) 0) (now (work .entry))) ⌝ }
+{
+    if work.len() < Limits::WORK {
+        return Answer::Refused(refusal);
+    }
+    clear(work);
+    Answer::Refused(refusal)
+}
 
 /// A refusal in or after the stages: the result area is zero.
 fn fail(refusal: Refusal, result: &mut [u8]) -> Answer

@@ -2,4 +2,5 @@
 pub mod answer;
 mod check;
 mod finish;
+pub mod regroup;
 pub mod run;

@@ -1,9 +1,7 @@
 //! The run of a query over an input and a joined array, in areas that the caller lends. It needs nothing of them: any
 //! bytes and any lengths are answered.
 ghost use mathlib.Core.Path.{_≡_};
-ghost use mathlib.Core.Bool.{cond};
-ghost use lib.ListN.{length, replicate};
-ghost use lib.Dec.{leb};
+ghost use lib.ListN.{length};
 ghost use Rattle.spec_trees.specs.Limits.{workMin};
 ghost use Rattle.stretches.specs.Ended.{Forms};
 ghost use Rattle.spec_run.specs.Run.{call};
@@ -12,10 +10,10 @@ ghost use Rattle.engine.specs.Perform.{Performs};
 use crate::check::CallCheck;
 use crate::check::check_call;
 use crate::finish::finish;
+use crate::finish::refuse;
 use areas::area::clear;
 use format::limits::Limits;
 use spec_run::answer::Answer;
-use spec_run::answer::Refusal;
 use stretches::all::all;
 
 /// The stages of a call that passed its tests, performed in 65,536 bytes of the work area, and its result.
@@ -31,17 +29,6 @@ fn perform<'a>(
 {
     let ended = all(query, input, joined, work);
     finish(work, ended, result)
-}
-
-/// A refusal before the stages: the work area is zero, unless it is too short; the result area is not touched.
-fn refuse(refusal: Refusal, work: &mut [u8]) -> Answer
-    ensures { λ a. ⌜ (a ≡ Answer.Refused refusal) × (now (work .exit) ≡ cond (leb workMin (length (now (work .entry)))) (replicate (length (now (work .entry))) 0) (now (work .entry))) ⌝ }
-{
-    if work.len() < Limits::WORK {
-        return Answer::Refused(refusal);
-    }
-    clear(work);
-    Answer::Refused(refusal)
 }
 
 /// Runs the query. Its number, its length and the whole content of the result area and of the work area are the plain

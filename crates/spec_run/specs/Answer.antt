@@ -1,4 +1,4 @@
--- The one predicate of the certificate.
+-- The one predicate of the certificate, of each call.
 use mathlib.Core.Path.{_≡_}
 use mathlib.Core.List.{List}
 use Prim.Native.Nat.{ℕ}
@@ -6,6 +6,7 @@ use Rattle.spec_run.specs.declared.answer.Answer.{Answer}
 use Rattle.spec_run.specs.declared.answer.Answer.the-variants.{Accepted, Refused}
 use Rattle.spec_run.specs.Refusal.{numberOf}
 use Rattle.spec_run.specs.Run.{Call, Verdict, numberIn, lengthIn, resultAfter, plainRun}
+use Rattle.spec_run.specs.Regroup.{RegroupCall, plainRegroup}
 
 -- an answer's number and length
 abbrev pub numbered : Answer → ℕ
@@ -23,6 +24,13 @@ pub record Answered (c : Call) (number length : ℕ) (result work : List ℕ) : 
   pub length-is : length ≡ plainRun c .length
   pub result-is : result ≡ plainRun c .result
   pub work-is : work ≡ plainRun c .work
+
+-- The same of the regrouping call: all four are the plain regrouping's of this call
+pub record Regrouped (c : RegroupCall) (number length : ℕ) (result work : List ℕ) : Type 0 where
+  pub number-is : number ≡ plainRegroup c .number
+  pub length-is : length ≡ plainRegroup c .length
+  pub result-is : result ≡ plainRegroup c .result
+  pub work-is : work ≡ plainRegroup c .work
 
 -- of a part of the engine that ends a run: the answer a, with the result area left so, is what the verdict x says of
 -- that area

@@ -63,14 +63,14 @@ module _ (ts us : List Tree) (wt : Within ts) (wu : Within us)
   ran ss = plainRun (call (queryBytes ss) (arrayBytes ts) (arrayBytes us) work area)
 
   -- that of a run whose stages come to this state
-  abbrev comes : List Stage → State → Outcome
-  comes ss st = outcomeOf (call (queryBytes ss) (arrayBytes ts) (arrayBytes us) work area) (final (length area) st)
+  abbrev comes : State → Outcome
+  comes st = outcomeOf area work (final (length area) st)
 
   -- what a list of stages, of none to eight, comes to: one statement about the whole list
-  pub run-stages : (ss : List Stage) → OkQ ss → ran ss ≡ comes ss (stages us ss (going ts))
+  pub run-stages : (ss : List Stage) → OkQ ss → ran ss ≡ comes (stages us ss (going ts))
   unfolding plainRun
   run-stages ss o =
-      ap (outcomeOf (call (queryBytes ss) (arrayBytes ts) (arrayBytes us) work area))
+      ap (outcomeOf area work)
       (reads-verdict (call (queryBytes ss) (arrayBytes ts) (arrayBytes us) work area) ss ts us
       record {
         enough = enough;
@@ -80,37 +80,37 @@ module _ (ts us : List Tree) (wt : Within ts) (wu : Within us)
       })
 
   -- the query of one stage
-  pub run-alone : (s : Stage) → OkQ (s ∷ []) → ran (s ∷ []) ≡ comes (s ∷ []) (after (performed us s ts))
+  pub run-alone : (s : Stage) → OkQ (s ∷ []) → ran (s ∷ []) ≡ comes (after (performed us s ts))
   unfolding stages
-  run-alone s o = run-stages (s ∷ []) o ∙ ap (comes (s ∷ [])) (stage-alone us ts wt s o)
+  run-alone s o = run-stages (s ∷ []) o ∙ ap comes (stage-alone us ts wt s o)
 
   -- ---- and so, stage by stage
   -- the trees that meet the criterion, in order
   pub match-alone : (c : Criterion) → OkQ (match c ∷ [])
-      → ran (match c ∷ []) ≡ comes (match c ∷ []) (going (filter (holds c) ts))
+      → ran (match c ∷ []) ≡ comes (going (filter (holds c) ts))
   unfolding performed after
   match-alone c o = run-alone (match c) o
 
   -- the outcomes of each tree, in order
   pub unwind-alone : (p : Path) → OkQ (unwind p ∷ [])
-      → ran (unwind p ∷ []) ≡ comes (unwind p ∷ []) (going (gather (unwound p) ts))
+      → ran (unwind p ∷ []) ≡ comes (going (gather (unwound p) ts))
   unfolding performed after
   unwind-alone p o = run-alone (unwind p) o
 
   -- what the items make of each tree; 8, if one is too large
   pub project-alone : (is : List Item) → OkQ (project is ∷ [])
-      → ran (project is ∷ []) ≡ comes (project is ∷ []) (after (each (projected is) ts))
+      → ran (project is ∷ []) ≡ comes (after (each (projected is) ts))
   unfolding performed
   project-alone is o = run-alone (project is) o
 
   -- the tree of each class; 8, if one is too large
   pub group-alone : (ag gs : List Pair) → OkQ (group ag gs ∷ [])
-      → ran (group ag gs ∷ []) ≡ comes (group ag gs ∷ []) (after (each (classTree ag gs) (grouped gs ts)))
+      → ran (group ag gs ∷ []) ≡ comes (after (each (classTree ag gs) (grouped gs ts)))
   unfolding performed
   group-alone ag gs o = run-alone (group ag gs) o
 
   -- each tree with its place of the joined trees that match; 8, if one is too large
   pub lookup-alone : (q r p : Path) → OkQ (lookup q r p ∷ [])
-      → ran (lookup q r p ∷ []) ≡ comes (lookup q r p ∷ []) (after (each (looked q r p us) ts))
+      → ran (lookup q r p ∷ []) ≡ comes (after (each (looked q r p us) ts))
   unfolding performed
   lookup-alone q r p o = run-alone (lookup q r p) o

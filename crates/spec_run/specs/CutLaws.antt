@@ -46,9 +46,11 @@ accepted-equal a b e = cc
 read-same : {A : Type 0} (x : Tested A) (a b : A) → x ≡ accepted a → x ≡ accepted b → a ≡ b
 read-same x a b p q = accepted-equal a b (sym p ∙ q)
 
-same-answer : (c d : Call) (b : List ℕ) (o p : Outcome) → o ≡ outcomeOf c (gives b) → p ≡ outcomeOf d (gives b) → SameAnswer o p
+same-answer : (c d : Call) (b : List ℕ) (o p : Outcome) → o ≡ outcomeOf (c .result) (c .work) (gives b) → p ≡ outcomeOf (d .result) (d .work) (gives b)
+    → SameAnswer o p
 unfolding outcomeOf numberIn lengthIn
-same-answer c d b o p e f = rw (e, f) record { number = refl; length = refl; result = result-is c b ∙ sym (result-is d b) }
+same-answer c d b o p e f =
+    rw (e, f) record { number = refl; length = refl; result = result-is (c .result) (c .work) b ∙ sym (result-is (d .result) (d .work) b) }
 
 -- q cut into q₁ and q₂; i the input, j the joined array; work and result areas: the first run's any, the uncut run's
 -- no shorter than the second run's
@@ -81,7 +83,7 @@ module _ (q q₁ q₂ i j work work₁ work₂ area area₁ area₂ : List ℕ) 
           → ((ss : List Stage) × (ts : List Tree) × (us : List Tree) × (fs : List Tree) × Gives c₂ ss ts us fs) → SameAnswer (plainRun c) (plainRun c₂)
       go (a, ts, us, fs, A) (b, ts₂, us₂, gs, B) =
           let w : Within fs = accepted-within c₁ a ts us fs h₁ hi hj A in
-          let m : resultBytes (plainRun c₁) ≡ arrayBytes fs = ap resultBytes (accepted-is c₁ a ts us fs A) ∙ result-is c₁ (arrayBytes fs) in
+          let m : resultBytes (plainRun c₁) ≡ arrayBytes fs = ap resultBytes (accepted-is c₁ a ts us fs A) ∙ result-is area₁ work₁ (arrayBytes fs) in
           let ea : k .before ≡ a = some-equal _ _ (sym (cut-reads k .1) ∙ read-query q₁ a .0 (A .reads .query)) in
           let eb : k .behind ≡ b = some-equal _ _ (sym (cut-reads k .2) ∙ read-query q₂ b .0 (B .reads .query)) in
           let ef : ts₂ ≡ fs = some-equal _ _ (sym (read-array (resultBytes (plainRun c₁)) ts₂ .0 (B .reads .input)) ∙ ap decodeArray m ∙ array-back fs w) in

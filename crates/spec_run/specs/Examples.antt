@@ -1,4 +1,5 @@
--- The plain run on examples: each row of the table of refusals, the bench examples at the limits, the program.
+-- The plain run on examples: each row of the table of refusals, the bench examples at the limits, the program; and the
+-- regrouping call.
 use mathlib.Core.Path.{_≡_, refl}
 use mathlib.Core.List.{List, [], _∷_, _++_}
 use Prim.Native.Nat.{ℕ}
@@ -8,9 +9,11 @@ use Rattle.spec_trees.specs.Bytes.{arrayBytes}
 use Rattle.spec_trees.specs.Examples.{#, ⟨_⟩, _⇒_⨾_}
 use Rattle.spec_queries.specs.Query.{always, negated, match, unwind, group, lookup}
 use Rattle.spec_queries.specs.Bytes.{queryBytes}
+use Rattle.spec_queries.specs.Decode.{pairOf}
 use Rattle.spec_stages.specs.Examples.{ran}
 use Rattle.spec_run.specs.Refusal.{keepsResult}
 use Rattle.spec_run.specs.Run.{reading, final, verdictOf, verdict, zeros, workAfter, resultAfter, numberIn, lengthIn, outcomeOf, plainRun, checkNumber, checkedQuery, checkedArray}
+use Rattle.spec_run.specs.Regroup.{asking, regroupVerdictOf}
 use Rattle.spec_run.specs.Program.{headed, digit, hex, decimal, refusedText, shown, answered, program}
 
 -- what a call is lent, of the work area only its length
@@ -106,6 +109,69 @@ pub rows-hold : AllHold rows
 unfolding told
 rows-hold =
     (refl, (refl, (refl, (refl, (refl, (refl, (refl, (refl, (refl, (refl, (refl, (refl, (refl, (refl, (refl, (refl, tt))))))))))))))))
+
+-- ---- the regrouping call: the same of it, the first array in the input's place and the second in the joined array's
+unfoldable abbrev pub regroupTold : Lent → ℕ × ℕ × List ℕ
+unfolding told asking regroupVerdictOf
+regroupTold c =
+    let x = regroupVerdictOf (c .query) (c .input) (c .joined) (c .work) (length (c .result)) in
+    (numberIn x, lengthIn x, resultAfter (c .result) x)
+
+abbrev AllRegroup : List Row → Type 0
+AllRegroup [] = Unit {0}
+AllRegroup (r ∷ rs) = (regroupTold (r .0) ≡ r .1) × AllRegroup rs
+
+-- a group that places an aggregate at a and its key at k
+abbrev tally : List ℕ → List ℕ → List ℕ
+tally a k = queryBytes (group (pairOf (2 ∷ []) a ∷ []) (pairOf (1 ∷ []) k ∷ []) ∷ [])
+
+-- such a group, whose destinations are 5 and 4
+abbrev lenses : List ℕ
+lenses = tally (5 ∷ []) (4 ∷ [])
+
+-- 200 bare voids to be joined with others: together too large for one tree
+abbrev many : List Tree
+many = ⟨ 5 ⇒ replicate 200 bareVoid ⨾ bare ⟩ ∷ []
+
+-- two of these are over 16,384 bytes together, with one head counted
+abbrev half : List ℕ
+half = arrayBytes (replicate 1366 bareVoid)
+
+abbrev regroupRows : List Row
+regroupRows =
+    -- its refusals, in order; each call has the faults of the later ones too, where it can
+    (lent over over over 65535 nines, (1, 0, nines))
+    ∷ (lent (replicate 4097 0) over over 65536 nines, (2, 0, nines))
+    ∷ (lent (16 ∷ 0 ∷ 1 ∷ []) over over 65536 nines, (3, 0, nines))
+    -- no group; a group and a stage more; a destination of two labels; one label in both lists
+    ∷ (lent no-stage over over 65536 nines, (3, 0, nines))
+    ∷ (lent (queryBytes (group [] [] ∷ match always ∷ [])) over over 65536 nines, (3, 0, nines))
+    ∷ (lent (tally (5 ∷ 6 ∷ []) (4 ∷ [])) over over 65536 nines, (3, 0, nines))
+    ∷ (lent (tally (4 ∷ []) (4 ∷ [])) over over 65536 nines, (3, 0, nines))
+    -- the first array before the second
+    ∷ (lent lenses over over 65536 nines, (4, 0, nines))
+    ∷ (lent lenses (1 ∷ 0 ∷ 0 ∷ 0 ∷ []) over 65536 nines, (5, 0, nines))
+    ∷ (lent lenses no-tree over 65536 nines, (4, 0, nines))
+    ∷ (lent lenses no-tree [] 65536 nines, (5, 0, nines))
+    ∷ (lent lenses half half 65536 nines, (9, 0, noughts))
+    ∷ (lent lenses (arrayBytes many) (arrayBytes many) 65536 nines, (8, 0, noughts))
+    ∷ (lent lenses (arrayBytes many) no-tree 65536 nines, (10, 0, noughts))
+    -- accepted: the members of a class are those of the first array and then those of the second
+    ∷ (
+      lent lenses (arrayBytes (⟨ 4 ⇒ # 1 ∷ [] ⨾ 5 ⇒ # 7 ∷ [] ⨾ bare ⟩ ∷ [])) (arrayBytes (⟨ 4 ⇒ # 2 ∷ [] ⨾ bare ⟩ ∷ ⟨ 4 ⇒ # 1 ∷ [] ⨾ 5 ⇒ # 8 ∷ [] ⨾ bare ⟩ ∷ [])) 65536 (replicate 92 9),
+      (0, 92, arrayBytes (⟨ 4 ⇒ # 1 ∷ [] ⨾ 5 ⇒ # 7 ∷ # 8 ∷ [] ⨾ bare ⟩ ∷ ⟨ 4 ⇒ # 2 ∷ [] ⨾ bare ⟩ ∷ [])),
+    )
+    -- an aggregate that is absent in one tray and empty in the other is present; a group of no pairs is such a group
+    ∷ (
+      lent lenses (arrayBytes (⟨ 4 ⇒ [] ⨾ bare ⟩ ∷ [])) (arrayBytes (⟨ 4 ⇒ [] ⨾ 5 ⇒ [] ⨾ bare ⟩ ∷ [])) 65536 (replicate 23 9),
+      (0, 23, arrayBytes (⟨ 4 ⇒ [] ⨾ 5 ⇒ [] ⨾ bare ⟩ ∷ [])),
+    )
+    ∷ (lent (queryBytes (group [] [] ∷ [])) (arrayBytes many) (arrayBytes many) 65536 (replicate 9 9), (0, 9, arrayBytes (bareVoid ∷ [])))
+    ∷ []
+
+pub regroup-rows-hold : AllRegroup regroupRows
+unfolding regroupTold
+regroup-rows-hold = (refl, (refl, (refl, (refl, (refl, (refl, (refl, (refl, (refl, (refl, (refl, (refl, (refl, (refl, (refl, (refl, (refl, tt)))))))))))))))))
 
 -- ---- at the limits: the input's number
 abbrev texts : ℕ → Tree

@@ -91,16 +91,17 @@ unfoldable pub lengthIn : Verdict → ℕ
 lengthIn (gives b) = length b
 lengthIn (refused r) = 0
 
-unfoldable pub outcomeOf : Call → Verdict → Outcome
-outcomeOf c x = record {
+-- of a result area and a work area
+unfoldable pub outcomeOf : List ℕ → List ℕ → Verdict → Outcome
+outcomeOf area work x = record {
   number = numberIn x;
   length = lengthIn x;
-  result = resultAfter (c .result) x;
-  work = workAfter (c .work);
+  result = resultAfter area x;
+  work = workAfter work;
 }
 
 unfoldable pub plainRun : Call → Outcome
-plainRun c = outcomeOf c (verdict c)
+plainRun c = outcomeOf (c .result) (c .work) (verdict c)
 
 -- the result bytes
 abbrev pub resultBytes : Outcome → List ℕ

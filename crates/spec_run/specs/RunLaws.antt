@@ -54,17 +54,17 @@ gives-verdict c ss ts us fs g =
     ∙ rw (g .ran, leb-yes (arraySize fs) arrayMax (g .small), leb-yes (arraySize fs) (length (c .result)) (g .fits)) refl
 
 -- and a run that comes to bytes is such a run
-reading-out : {A : Type 0} (x : Tested A) (r s : Refusal) (f : A → Verdict) (b : List ℕ) → reading x r s f ≡ gives b → (a : A) × (x ≡ accepted a) × (f a ≡ gives b)
+pub reading-out : {A : Type 0} (x : Tested A) (r s : Refusal) (f : A → Verdict) (b : List ℕ) → reading x r s f ≡ gives b → (a : A) × (x ≡ accepted a) × (f a ≡ gives b)
 unfolding reading
 reading-out (accepted a) r s f b e = (a, refl, e)
 reading-out overlong r s f b e = let z : _≡_ {A = ℕ} 0 1 = cc in absurd (omega arith)
 reading-out malformed r s f b e = let z : _≡_ {A = ℕ} 0 1 = cc in absurd (omega arith)
 
-cond-out : (c : Bool) (x : Verdict) (r : Refusal) (b : List ℕ) → cond c x (refused r) ≡ gives b → T c × (x ≡ gives b)
+pub cond-out : (c : Bool) (x : Verdict) (r : Refusal) (b : List ℕ) → cond c x (refused r) ≡ gives b → T c × (x ≡ gives b)
 cond-out true x r b e = (tt, e)
 cond-out false x r b e = let z : _≡_ {A = ℕ} 0 1 = cc in absurd (omega arith)
 
-final-out : (room : ℕ) (x : State) (b : List ℕ) → final room x ≡ gives b
+pub final-out : (room : ℕ) (x : State) (b : List ℕ) → final room x ≡ gives b
     → (fs : List Tree) × (x ≡ going fs) × (arraySize fs ≤ arrayMax) × (arraySize fs ≤ room)
 unfolding final
 final-out room large b e = let z : _≡_ {A = ℕ} 0 1 = cc in absurd (omega arith)
@@ -105,7 +105,7 @@ refusal-number GroupLong = (omega arith, omega arith)
 refusal-number ResultLong = (omega arith, omega arith)
 
 -- number 0 is acceptance
-accepts-gives : (x : Verdict) → numberIn x ≡ 0 → (b : List ℕ) × (x ≡ gives b)
+pub accepts-gives : (x : Verdict) → numberIn x ≡ 0 → (b : List ℕ) × (x ≡ gives b)
 unfolding numberIn
 accepts-gives (gives b) e = (b, refl)
 accepts-gives (refused r) e = absurd (omega (arith, refusal-number r .0))
@@ -115,13 +115,13 @@ pub accepted-out : (c : Call) → plainRun c .number ≡ 0
 unfolding plainRun outcomeOf
 accepted-out c e = let (b, g) = accepts-gives (verdict c) e in verdict-out c b g
 
-pub accepted-is : (c : Call) (ss : List Stage) (ts us fs : List Tree) → Gives c ss ts us fs → plainRun c ≡ outcomeOf c (gives (arrayBytes fs))
+pub accepted-is : (c : Call) (ss : List Stage) (ts us fs : List Tree) → Gives c ss ts us fs → plainRun c ≡ outcomeOf (c .result) (c .work) (gives (arrayBytes fs))
 unfolding plainRun
-accepted-is c ss ts us fs g = ap (outcomeOf c) (gives-verdict c ss ts us fs g)
+accepted-is c ss ts us fs g = ap (outcomeOf (c .result) (c .work)) (gives-verdict c ss ts us fs g)
 
-pub result-is : (c : Call) (b : List ℕ) → resultBytes (outcomeOf c (gives b)) ≡ b
+pub result-is : (area work b : List ℕ) → resultBytes (outcomeOf area work (gives b)) ≡ b
 unfolding outcomeOf lengthIn resultAfter
-result-is c b = take-append-seam b (drop (length b) (c .result))
+result-is area work b = take-append-seam b (drop (length b) area)
 
 -- what an accepted run gives is an array within the limits
 pub accepted-within : (c : Call) (ss : List Stage) (ts us fs : List Tree) → AllBytes (c .query) → AllBytes (c .input) → AllBytes (c .joined)
@@ -138,33 +138,37 @@ unfolding numberIn
 verdict-number (gives b) = omega arith
 verdict-number (refused r) = refusal-number r .1
 
-pub number-most : (c : Call) → plainRun c .number ≤ 10
-unfolding plainRun outcomeOf
-number-most c = verdict-number (verdict c)
-
--- a result's length is that of an array within the limits, and no more than the result area's, before the run and
--- after it
-pub record Short (c : Call) (o : Outcome) : Type 0 where
+-- a number is at most 10; a result's length is that of an array within the limits, and no more than the result area's,
+-- before the call and after it
+pub record Short (lent : List ℕ) (o : Outcome) : Type 0 where
+  pub number : o .number ≤ 10
   pub array : o .length ≤ arrayMax
-  pub area : o .length ≤ length (c .result)
+  pub area : o .length ≤ length lent
   pub left : o .length ≤ length (o .result)
 
-pub length-most : (c : Call) → Short c (plainRun c)
-unfolding plainRun outcomeOf lengthIn resultAfter
-length-most c = go (verdict c) refl
-  where
-    go : (x : Verdict) → verdict c ≡ x → Short c (outcomeOf c x)
-    go (gives b) e =
-        let (ss, ts, us, fs, g) = verdict-out c b e in
-        let z : gives (arrayBytes fs) ≡ gives b = sym (gives-verdict c ss ts us fs g) ∙ e in
-        let y : arrayBytes fs ≡ b = cc in
-        let l : length b ≡ arraySize fs = sym (ap length y) ∙ length-array fs in
-        record {
-          array = omega (arith, l, g .small);
-          area = omega (arith, l, g .fits);
-          left = omega (arith, length-append b (drop (length b) (c .result)));
-        }
-    go (refused r) e = record { array = omega arith; area = omega arith; left = omega arith }
+-- where what the verdict gives is an array that is small and fits the area
+pub outcome-short : (area work : List ℕ) (x : Verdict) → ((b : List ℕ) → x ≡ gives b → (length b ≤ arrayMax) × (length b ≤ length area))
+    → Short area (outcomeOf area work x)
+unfolding outcomeOf lengthIn resultAfter
+outcome-short area work (gives b) h =
+    let s = h b refl in
+    record { number = verdict-number (gives b); array = s .0; area = s .1; left = omega (arith, length-append b (drop (length b) area)) }
+outcome-short area work (refused r) h = record { number = verdict-number (refused r); array = omega arith; area = omega arith; left = omega arith }
+
+-- such are the bytes that an array of this size has
+pub bytes-short : (fs : List Tree) (x : Verdict) (b : List ℕ) (room : ℕ) → x ≡ gives (arrayBytes fs) → x ≡ gives b → arraySize fs ≤ arrayMax → arraySize fs ≤ room
+    → (length b ≤ arrayMax) × (length b ≤ room)
+bytes-short fs x b room e f s m =
+    let z : gives (arrayBytes fs) ≡ gives b = sym e ∙ f in
+    let y : arrayBytes fs ≡ b = cc in
+    let l : length b ≡ arraySize fs = sym (ap length y) ∙ length-array fs in
+    (omega (arith, l, s), omega (arith, l, m))
+
+pub run-short : (c : Call) → Short (c .result) (plainRun c)
+unfolding plainRun
+run-short c = outcome-short (c .result) (c .work) (verdict c) (λ b e.
+    let (ss, ts, us, fs, g) = verdict-out c b e in
+    bytes-short fs (verdict c) b (length (c .result)) (gives-verdict c ss ts us fs g) e (g .small) (g .fits))
 
 zeros-length : (area : List ℕ) → length (zeros area) ≡ length area
 unfolding zeros
@@ -173,7 +177,7 @@ zeros-length area = length-replicate {A = ℕ} (length area) 0
 -- the result area is as long as it was
 pub result-length : (c : Call) → length (plainRun c .result) ≡ length (c .result)
 unfolding plainRun outcomeOf lengthIn resultAfter
-result-length c = go (verdict c) (length-most c .area)
+result-length c = go (verdict c) (run-short c .area)
   where
     kept : (b : Bool) → length (cond b (c .result) (zeros (c .result))) ≡ length (c .result)
     kept true = refl

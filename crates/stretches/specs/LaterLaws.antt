@@ -133,7 +133,7 @@ ends-large w z = record {
   long-is = λ q. let y : _≡_ {A = ℕ} 0 1 = cc in absurd (omega arith);
 }
 
-ends-long : (w : List ℕ) {st : State} → st ≡ long → EndedIs w Ended.Long st
+pub ends-long : (w : List ℕ) {st : State} → st ≡ long → EndedIs w Ended.Long st
 ends-long w z = record {
   held = λ m q. let y : _≡_ {A = ℕ} 0 1 = cc in absurd (omega arith);
   full = λ q. let y : _≡_ {A = ℕ} 0 1 = cc in absurd (omega arith);

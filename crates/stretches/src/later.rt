@@ -11,7 +11,7 @@ use stream::collector::Collector;
 use stream::map::Map;
 
 /// How a run ends whose last stretch left this in the collector.
-fn last(collector: Collector) -> Ended
+pub fn last(collector: Collector) -> Ended
     ensures { λ r. ⌜ LastPost collector r ⌝ }
 {
     match collector {

@@ -9,39 +9,37 @@ use Rattle.format.specs.Check.{checkOf}
 use Rattle.format.specs.declared.check.Check.{Check}
 use Rattle.format.specs.declared.check.Check.the-variants as check
 use Rattle.spec_run.specs.declared.answer.Refusal.{Refusal}
-use Rattle.spec_run.specs.Run.{Call, plainRun, checkNumber}
-use Rattle.spec_run.specs.RunLaws.{refusal-number, number-most, length-most}
-use Rattle.spec_run.specs.Answer.{Answered}
+use Rattle.spec_run.specs.declared.answer.Answer.{Answer}
+use Rattle.spec_run.specs.declared.answer.Answer.the-variants.{Accepted, Refused}
+use Rattle.spec_run.specs.Run.{Outcome, checkNumber}
+use Rattle.spec_run.specs.RunLaws.{refusal-number, Short}
+use Rattle.spec_run.specs.Answer.{numbered}
+use Rattle.spec_run.specs.AnswerLaws.{AnsweredBy}
 use Rattle.engine.specs.Check.{checkedAs}
 use Rattle.engine.specs.CheckLaws.{checked-number}
 use Rattle.tquery.specs.Interface.{numberFrom, lengthFrom}
 
--- ---- a run's answer
-pub record Small (n l : ℕ) : Type 0 where
-  pub number : n ≤ 10
-  pub length : l ≤ arrayMax
+-- ---- an answer in one number
+pub packed-small : (a : Answer) → numbered a ≤ 10
+packed-small (Accepted n) = omega arith
+packed-small (Refused r) = refusal-number r .1
 
-pub answered-small : {c : Call} {n l : ℕ} {left work : List ℕ} → Answered c n l left work → Small n l
-answered-small {c} h = record { number = omega (arith, h .number-is, number-most c); length = omega (arith, h .length-is, length-most c .array) }
+-- that of a call, of whose outcome o the limits are known; p is what the code has
+module _ {lent : List ℕ} {o : Outcome} {n l : ℕ} {left work : List ℕ} (s : Short lent o) (h : AnsweredBy o n l left work) where
+  pub answered-short : l ≤ arrayMax
+  answered-short = omega (arith, h .length-is, s .array)
 
-number-back : (n l : ℕ) → Small n l → numberFrom (n * 4294967296 + l) ≡ n
-number-back n l s = omega (arith, s .number, s .length)
-
-length-back : (n l : ℕ) → Small n l → lengthFrom (n * 4294967296 + l) ≡ l
-length-back n l s = omega (arith, s .number, s .length)
-
--- x and y are what the code has for the number and the length
-pub answered-one : {c : Call} {n l x y : ℕ} {left work : List ℕ} → x ≡ n → y ≡ l → Answered c n l left work
-    → Answered c (numberFrom (x * 4294967296 + y)) (lengthFrom (x * 4294967296 + y)) left work
-answered-one {c} {n} {l} {x} {y} p q h =
-    let s = answered-small h in
-    let t : Small x y = record { number = omega (arith, p, s .number); length = omega (arith, q, s .length) } in
-    record {
-      number-is = number-back x y t ∙ p ∙ h .number-is;
-      length-is = length-back x y t ∙ q ∙ h .length-is;
-      result-is = h .result-is;
-      work-is = h .work-is;
-    }
+  pub answered-one : {p : ℕ} → p ≡ n * 4294967296 + l → AnsweredBy o (numberFrom p) (lengthFrom p) left work
+  answered-one {p} z =
+      let m = answered-short in
+      let a : numberFrom p ≡ n = omega (arith, h .number-is, s .number) in
+      let b : lengthFrom p ≡ l = omega (arith, h .number-is, s .number) in
+      record {
+        number-is = a ∙ h .number-is;
+        length-is = b ∙ h .length-is;
+        result-is = h .result-is;
+        work-is = h .work-is;
+      }
 
 -- ---- a check's answer
 pub check-small : (c : Check) (r s : Refusal) → checkedAs c r s ≤ 10

@@ -13,7 +13,7 @@ use Rattle.spec_run.specs.declared.answer.Refusal.{Refusal}
 use Rattle.spec_run.specs.Refusal.{numberOf}
 use Rattle.spec_run.specs.Answer.{numbered, lengthened, Answered}
 use Rattle.spec_run.specs.Run.{Call, call, plainRun}
-use Rattle.spec_run.specs.RunLaws.{refusal-number, length-most}
+use Rattle.spec_run.specs.RunLaws.{refusal-number, run-short}
 use Rattle.spec_run.specs.Program.{hex, refusedText, shown, answered, program, programMax}
 use Rattle.tquery_cli.specs.Text.{Begins}
 use Rattle.tquery_cli.specs.Respond.{ShowReady, ShowsAnswer, RespondReady}
@@ -57,7 +57,7 @@ areas-ready s e l = record { short = omega (arith, ap length e, length-take prog
 module _ {s work result text : List ℕ} (h : RespondReady s work result text) where
   pub answer-ready : {a : Answer} {q i j left w : List ℕ} → Answered (call q i j work result) (numbered a) (lengthened a) left w → ShowReady a left text
   answer-ready {a} {q} {i} {j} g =
-      let m = length-most (call q i j work result) in
+      let m = run-short (call q i j work result) in
       let l : length result ≡ arrayMax = ap length (h .zero) ∙ length-replicate {A = ℕ} arrayMax 0 in
       record {
         within = omega (arith, g .length-is, m .left, ap length (g .result-is));

@@ -1,33 +1,28 @@
 -- Made from Proof.ans by answers.py, which overwrites this file: edit Proof.ans.
-use native.Mathlib.Omega.{arith}
-use Rattle.tquery.specs.InterfaceLaws.{answered-small, answered-one}
+use Rattle.spec_run.specs.Run.{call}
+use Rattle.spec_run.specs.RunLaws.{run-short}
+use Rattle.spec_run.specs.AnswerLaws.{run-by, by-run}
+use Rattle.tquery.specs.InterfaceLaws.{answered-short, answered-one}
 use borrow.Author.Needs.{needs}
 use Rattle.tquery.proofs.interface.tquery_run.Statement.{statement}
 use Rattle.tquery.proofs.interface.tquery_run.Tie as tie
 use Rattle.tquery.proofs.interface.tquery_run.Reads as reads
 use Rattle.tquery.proofs.interface.tquery_run.Lts as lts
-use Rattle.engine.proofs.answer.length.Reads as length-reads
-use Rattle.engine.proofs.answer.number.Reads as number-reads
 use Rattle.engine.proofs.run.run.Reads as run-reads
+use Rattle.tquery.proofs.interface.packed.Reads as packed-reads
 
 run-requires : tie.Need-run-requires
 run-requires c κs = search needs
 
-number-requires : tie.Need-number-requires
-number-requires c κs = search needs
-
-mul-result : tie.Need-mul-result
-mul-result c =
-    let s = answered-small (c .before .before .before .before .before .run .ensures) in
-    omega (arith, c .number .ensures, s .number)
-
-length-requires : tie.Need-length-requires
-length-requires c κs = search needs
-
-add-result : tie.Need-add-result
-add-result c =
-    let s = answered-small (c .before .before .before .before .before .before .run .ensures) in
-    omega (arith, c .before .number .ensures, c .length .ensures, s .number, s .length)
+packed-requires : tie.Need-packed-requires
+packed-requires c κs =
+    answered-short (run-short
+    (call (c .before .before .before .before .before .before .before .before .before .before .before .before .args .query .now)
+    (c .before .before .before .before .before .before .before .before .before .before .before .before .args .input .now)
+    (c .before .before .before .before .before .before .before .before .before .before .before .before .args .joined .now)
+    (c .before .before .before .before .before .before .before .before .before .before .before .before .args .work .now)
+    (c .before .before .before .before .before .before .before .before .before .before .before .before .args .result .now)))
+    (run-by (c .before .before .before .before .run .ensures))
 
 same-length : tie.Need-same-length
 same-length c = search needs
@@ -37,18 +32,14 @@ same-length-2 c = search needs
 
 returns : tie.Need-returns
 returns c =
-    answered-one (c .before .number .ensures) (c .length .ensures)
-    (c .before .before .before .before .before .before .run .ensures)
+    by-run (answered-one (run-short
+    (call (c .before .before .before .before .before .before .before .before .before .before .before .before .before .args .query .now)
+    (c .before .before .before .before .before .before .before .before .before .before .before .before .before .args .input .now)
+    (c .before .before .before .before .before .before .before .before .before .before .before .before .before .args .joined .now)
+    (c .before .before .before .before .before .before .before .before .before .before .before .before .before .args .work .now)
+    (c .before .before .before .before .before .before .before .before .before .before .before .before .before .args .result .now)))
+    (run-by (c .before .before .before .before .before .run .ensures)) (c .packed .ensures))
 
 pub tquery-run-spec : {M : Type 1} → statement M
 tquery-run-spec =
-    tie.close
-    (tie.spec
-    run-requires
-    number-requires
-    mul-result
-    length-requires
-    add-result
-    same-length
-    same-length-2
-    returns)
+    tie.close (tie.spec run-requires packed-requires same-length same-length-2 returns)

@@ -5,10 +5,10 @@ use lib.ListN.{length}
 use Rattle.spec_trees.specs.Limits.{workMin}
 use Rattle.spec_trees.specs.OptionLaws.{leb-yes, leb-no}
 use borrow.Author.Needs.{needs}
-use Rattle.engine.proofs.run.refuse.Statement.{statement}
-use Rattle.engine.proofs.run.refuse.Tie as tie
-use Rattle.engine.proofs.run.refuse.Reads as reads
-use Rattle.engine.proofs.run.refuse.Lts as lts
+use Rattle.engine.proofs.finish.refuse.Statement.{statement}
+use Rattle.engine.proofs.finish.refuse.Tie as tie
+use Rattle.engine.proofs.finish.refuse.Reads as reads
+use Rattle.engine.proofs.finish.refuse.Lts as lts
 use Rattle.areas.proofs.area.clear.Reads as clear-reads
 
 returns : tie.Need-returns

@@ -1,0 +1,34 @@
+-- Made from Proof.ans by answers.py, which overwrites this file: edit Proof.ans.
+use Rattle.engine.specs.RegroupLaws.{again-finish, again-perform}
+use borrow.Author.Needs.{needs}
+use Rattle.engine.proofs.regroup.perform_again.Statement.{statement}
+use Rattle.engine.proofs.regroup.perform_again.Tie as tie
+use Rattle.engine.proofs.regroup.perform_again.Reads as reads
+use Rattle.engine.proofs.regroup.perform_again.Lts as lts
+use Rattle.engine.proofs.finish.finish.Reads as finish-reads
+use Rattle.trays.proofs.regroup.regroup.Reads as regroup-reads
+
+regroup-requires : tie.Need-regroup-requires
+regroup-requires c κs = search needs
+
+finish-requires : tie.Need-finish-requires
+finish-requires c κs =
+    again-finish (c .before .before .before .before .regroup .ensures)
+    (c .before .before .before .before .before .before .before .before .before .before .before .pre)
+    (c .before .before .before .before .regroup .kept .1 .1 .1 .1 .0)
+
+same-length : tie.Need-same-length
+same-length c = search needs
+
+same-length-2 : tie.Need-same-length-2
+same-length-2 c = search needs
+
+returns : tie.Need-returns
+returns c =
+    again-perform (c .before .before .before .before .before .before .before .regroup .ensures)
+    (c .before .before .before .before .before .before .before .before .before .before .before .before .before .before .args .result .now)
+    (c .before .before .finish .ensures)
+
+pub perform-again-spec : {M : Type 1} → statement M
+perform-again-spec =
+    tie.close (tie.spec regroup-requires finish-requires same-length same-length-2 returns)

@@ -1,0 +1,32 @@
+//! The join of two arrays.
+ghost use Prim.Native.Nat.{_≤_};
+ghost use lib.ListN.{length};
+ghost use mathlib.Core.List.{_++_};
+ghost use lib.ListN.{drop};
+ghost use Rattle.stream.specs.Map.{treesMax};
+ghost use Rattle.areas.specs.Area.{Wrote};
+use areas::area::Out;
+use areas::area::copy_in;
+use areas::span::Span;
+use stream::map::Map;
+
+/// The trees of the first array, and behind them those of the second, at the front of the work area; or they are more
+/// than an array may have.
+pub fn join(work: &mut [u8], first: &[u8], second: &[u8]) -> Out
+    requires { ⌜ (3 ≤ length (now first)) × (3 ≤ length (now second)) × (treesMax ≤ length (now work)) ⌝ }
+    ensures { λ r. ⌜ Wrote (now (work .entry)) (now (work .exit)) 0 treesMax (drop 3 (now (first .entry)) ++ drop 3 (now (second .entry))) r ⌝ }
+{
+    let front = Span {
+        from: 0,
+        to: Map::TREES,
+    };
+    let one = copy_in(work, &first[3..], front);
+    let Out::At(m) = one else {
+        return Out::TooLarge;
+    };
+    let behind = Span {
+        from: m,
+        to: Map::TREES,
+    };
+    copy_in(work, &second[3..], behind)
+}
