@@ -1,9 +1,10 @@
-//! The call of a case, and whether all that is seen of it is as expected. The work area is full of 170 before a run,
+//! The call of a case, and whether all that is seen of it is as expected. The work area is full of 170 before a call,
 //! and the result area full of 187, so that a byte that changed is seen.
 use areas::compare::same_bytes;
 use engine::answer::check_number;
 use engine::answer::length;
 use engine::answer::number;
+use engine::regroup::regroup;
 use engine::run::run;
 use format::check::check_array;
 use queries::check::check_query;
@@ -36,12 +37,20 @@ pub enum Verdict {
     Malformed,
 }
 
-/// A case of a run. Its query, its input, its joined array and the result that is expected stand one behind another.
+/// The calls that answer with a result.
+pub enum Call {
+    Run,
+    Regroup,
+}
+
+/// A case of such a call. Its query, its two arrays (of a run the input and the joined array) and the result that is
+/// expected stand one behind another.
 pub struct Case {
+    pub call: Call,
     /// Where each of the four ends.
     pub query_end: usize,
-    pub input_end: usize,
-    pub joined_end: usize,
+    pub first_end: usize,
+    pub second_end: usize,
     pub result_end: usize,
     /// How many bytes the work area has.
     pub work: usize,
@@ -62,12 +71,12 @@ fn rest_byte(number: u64) -> u8 {
     if number < 8 { 187 } else { 0 }
 }
 
-/// The byte that fills the work area after the run, by the number: only refusal 1 leaves the area as it was.
+/// The byte that fills the work area after the call, by the number: only refusal 1 leaves the area as it was.
 fn work_byte(number: u64) -> u8 {
     if number == 1 { 170 } else { 0 }
 }
 
-/// Compares the areas after a run whose number and length are as expected.
+/// Compares the areas after a call whose number and length are as expected.
 fn areas(number: u64, expected: &[u8], work: &[u8], result: &[u8]) -> Verdict {
     if !same_bytes(front(result, expected.len()), expected) {
         return Verdict::Result;
@@ -92,19 +101,25 @@ fn answered(answer: Answer, wanted: u64, expected: &[u8], work: &[u8], result: &
     areas(wanted, expected, work, result)
 }
 
+/// The answer to the call of a case.
+fn answer_to(bytes: &[u8], case: Case, work: &mut [u8], result: &mut [u8]) -> Answer {
+    let call = case.call;
+    let query = front(bytes, case.query_end);
+    let first = part(bytes, case.query_end, case.first_end);
+    let second = part(bytes, case.first_end, case.second_end);
+    match call {
+        Call::Run => run(query, first, second, work, result),
+        Call::Regroup => regroup(query, first, second, work, result),
+    }
+}
+
 /// Runs a case in areas that have the lengths that it asks for.
 fn compare_in(bytes: &[u8], case: Case, work: &mut [u8], result: &mut [u8]) -> Verdict {
-    let answer = run(
-        front(bytes, case.query_end),
-        part(bytes, case.query_end, case.input_end),
-        part(bytes, case.input_end, case.joined_end),
-        work,
-        result,
-    );
+    let answer = answer_to(bytes, case, work, result);
     answered(
         answer,
         case.number,
-        part(bytes, case.joined_end, case.result_end),
+        part(bytes, case.second_end, case.result_end),
         work,
         result,
     )

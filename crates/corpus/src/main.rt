@@ -1,8 +1,9 @@
 //! Runs the engine on each case of a stored corpus, which stands on standard input, and writes how many of them agree
-//! with what the corpus expects, and the first that differs. The corpus was written by another program, from document
-//! 01 alone. A case is one record: the query, the input and the joined array, each with its length before it in two
-//! bytes, the high one first; the length of the work area in three bytes, and of the result area in two; the number
-//! that is expected in one byte; and the result that is expected, with its length before it in two bytes.
+//! with what the corpus expects, and the first that differs. The corpus was written by another program, from documents
+//! 01 and 02 alone. A case is one record: the query and the two arrays, of a run the input and the joined array, each
+//! with its length before it in two bytes, the high one first; the length of the work area in three bytes, and of the
+//! result area in two; the number that is expected in one byte; and the result that is expected, with its length before
+//! it in two bytes. A regrouping is told from a run by the first bit of the work area's length, which is not counted.
 mod count;
 mod record;
 mod turn;

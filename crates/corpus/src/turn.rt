@@ -2,6 +2,7 @@
 use crate::record::Part;
 use crate::record::read_number;
 use crate::record::read_part;
+use cases::compare::Call;
 use cases::compare::Case;
 use cases::compare::Verdict;
 use cases::compare::compare;
@@ -16,15 +17,21 @@ pub enum Turn {
 /// The room for the parts of a record.
 const PARTS: usize = 65536;
 
-/// Reads what is behind a query that ends at `query_end`, and runs the case.
-fn behind_query(query_end: usize, bytes: &mut [u8]) -> Turn {
-    let Part::Whole(input_end) = read_part(bytes, query_end) else {
-        return Turn::Malformed;
-    };
-    let Part::Whole(joined_end) = read_part(bytes, input_end) else {
-        return Turn::Malformed;
-    };
-    let Part::Whole(work) = read_number(3) else {
+/// What a regrouping adds to the length of its work area: the first bit of three bytes.
+const REGROUPS: usize = 8388608;
+
+/// The call of a record, by the length of its work area as it is written.
+fn call_of(marked: usize) -> Call {
+    if marked < REGROUPS {
+        Call::Run
+    } else {
+        Call::Regroup
+    }
+}
+
+/// Reads what is behind the arrays, and runs the case. The query ends at `query_end`, the arrays at the other two places.
+fn behind_arrays(query_end: usize, first_end: usize, second_end: usize, bytes: &mut [u8]) -> Turn {
+    let Part::Whole(marked) = read_number(3) else {
         return Turn::Malformed;
     };
     let Part::Whole(room) = read_number(2) else {
@@ -33,19 +40,31 @@ fn behind_query(query_end: usize, bytes: &mut [u8]) -> Turn {
     let Part::Whole(number) = read_number(1) else {
         return Turn::Malformed;
     };
-    let Part::Whole(result_end) = read_part(bytes, joined_end) else {
+    let Part::Whole(result_end) = read_part(bytes, second_end) else {
         return Turn::Malformed;
     };
     let c = Case {
+        call: call_of(marked),
         query_end,
-        input_end,
-        joined_end,
+        first_end,
+        second_end,
         result_end,
-        work,
+        work: marked % REGROUPS,
         room,
         number: number as u64,
     };
     Turn::Compared(compare(bytes, c))
+}
+
+/// Reads what is behind a query that ends at `query_end`, and runs the case.
+fn behind_query(query_end: usize, bytes: &mut [u8]) -> Turn {
+    let Part::Whole(first_end) = read_part(bytes, query_end) else {
+        return Turn::Malformed;
+    };
+    let Part::Whole(second_end) = read_part(bytes, first_end) else {
+        return Turn::Malformed;
+    };
+    behind_arrays(query_end, first_end, second_end, bytes)
 }
 
 /// Reads a record, runs its case and compares it.

@@ -1,4 +1,5 @@
 //! A row: its name, its call with the arguments, and what is expected.
+use cases::compare::Call;
 use cases::compare::Case;
 use cases::compare::Check;
 use cases::compare::Verdict;
@@ -52,23 +53,40 @@ fn check_row(row: &[u8], place: Place, check: Check) -> Verdict {
     compare_check(check, front(&bytes, n.end), n.value as u64)
 }
 
-/// The verdict of a row whose call is a run.
-fn run_row(row: &[u8], place: Place) -> Verdict {
+/// The first array of a call.
+fn first_array(row: &[u8], place: Place, call: Call, bytes: &mut [u8]) -> Place {
+    match call {
+        Call::Run => argument(row, place, b"input ", bytes),
+        Call::Regroup => argument(row, place, b"first ", bytes),
+    }
+}
+
+/// The second array of a call.
+fn second_array(row: &[u8], place: Place, call: Call, bytes: &mut [u8]) -> Place {
+    match call {
+        Call::Run => argument(row, place, b"joined ", bytes),
+        Call::Regroup => argument(row, place, b"second ", bytes),
+    }
+}
+
+/// The verdict of a row whose call answers with a result.
+fn result_row(row: &[u8], place: Place, call: Call) -> Verdict {
     let mut bytes = [0u8; BYTES];
     let w = number(row, place);
     let r = number(row, w);
     let q = argument(row, line_feed(row, r), b"query ", &mut bytes);
-    let i = argument(row, q, b"input ", &mut bytes);
-    let j = argument(row, i, b"joined ", &mut bytes);
-    let n = expected_number(row, j);
+    let f = first_array(row, q, call, &mut bytes);
+    let s = second_array(row, f, call, &mut bytes);
+    let n = expected_number(row, s);
     let e = expected_result(row, n, &mut bytes);
     if !is_read(row, e) {
         return Verdict::Malformed;
     }
     let c = Case {
+        call,
         query_end: q.end,
-        input_end: i.end,
-        joined_end: j.end,
+        first_end: f.end,
+        second_end: s.end,
         result_end: e.end,
         work: w.value,
         room: r.value,
@@ -93,5 +111,9 @@ pub fn row_verdict(row: &[u8]) -> Verdict {
     if q.sound {
         return check_row(row, q, Check::Query);
     }
-    run_row(row, word(row, place, b"run"))
+    let g = word(row, place, b"regroup");
+    if g.sound {
+        return result_row(row, g, Call::Regroup);
+    }
+    result_row(row, word(row, place, b"run"), Call::Run)
 }

@@ -1,4 +1,6 @@
-//! `corpus N SEED > FILE`: N cases with their expected outcome, as bytes.
+//! `corpus RUNS SEED [REGROUPS] > FILE`: so many cases of runs, and behind
+//! them so many of regroupings (none if left out), with their expected
+//! outcome, as bytes.
 //!
 //! For test programs that have no reference of their own. A record, all
 //! numbers high byte first:
@@ -6,42 +8,57 @@
 //! | Field | Bytes |
 //! |---|---|
 //! | query length, query | 2, that many |
-//! | input length, input | 2, that many |
-//! | joined length, joined array | 2, that many |
-//! | work area length | 3 |
+//! | first length, first array (of a run the input) | 2, that many |
+//! | second length, second array (of a run the joined array) | 2, that many |
+//! | work area length; for a regrouping 8,388,608 more, the first bit | 3 |
 //! | result area length | 2 |
 //! | number | 1 |
 //! | result length, result | 2, that many |
 //!
 //! Before a case the work area is filled with 170 and the result area with
-//! 187. The first records are the same for every seed: one for each number.
+//! 187. The first records of each call are the same for every seed: one for
+//! each number, and for each array that can give it.
 
 use reference::bytes::{encode_array, encode_query};
-use reference::generate::{Case, Cases};
+use reference::generate::{Case, Cases, RegroupCase, RegroupCases};
+use reference::regroup::decide_regroup;
 use reference::run::{decide, Verdict, WORK_LEAST};
-use reference::stages::{Data, Item, Stage};
+use reference::stages::{Data, Item, Pair, Stage};
 use reference::tree::{Tree, ARRAY_LIMIT};
 use std::io::{self, BufWriter, Write};
 use std::process::ExitCode;
 
-/// A record above this many bytes is large. Cases near the array limit are,
-/// and would be most of the file.
+/// What a regrouping adds to the length of its work area.
+const REGROUPS: usize = 1 << 23;
+
+/// A record above this many bytes is large. Cases near a limit are, and would
+/// be most of the file.
 const LARGE: usize = 600;
 
-/// One record of so many is a large one, and all others are not.
-const LARGE_EVERY: usize = 80;
+/// Which records are large: one of so many, and all others are not; and the
+/// numbers of the large ones, in turn. Some refusals come of long areas alone,
+/// and would else be the rarest.
+struct Large {
+    every: usize,
+    numbers: &'static [Option<u8>],
+}
 
-/// The numbers of the large ones, in turn. Refusals 2, 4 and 6 come of long
-/// areas alone, and would else be the rarest.
-const LARGE_NUMBERS: [Option<u8>; 5] = [Some(2), None, Some(4), None, Some(6)];
+const LARGE_RUNS: Large = Large { every: 80, numbers: &[Some(2), None, Some(4), None, Some(6)] };
+
+const LARGE_REGROUPS: Large =
+    Large { every: 25, numbers: &[Some(8), None, Some(2), Some(8), Some(9), Some(0), Some(4)] };
 
 fn main() -> ExitCode {
     let arguments: Option<Vec<u64>> = std::env::args().skip(1).map(|word| word.parse().ok()).collect();
-    let Some([number, seed]) = arguments.as_deref() else {
-        eprintln!("usage: corpus N SEED > FILE");
-        return ExitCode::from(2);
+    let (runs, seed, regroups) = match arguments.as_deref() {
+        Some([runs, seed]) => (*runs, *seed, 0),
+        Some([runs, seed, regroups]) => (*runs, *seed, *regroups),
+        _ => {
+            eprintln!("usage: corpus RUNS SEED [REGROUPS] > FILE");
+            return ExitCode::from(2);
+        }
     };
-    match write_corpus(*number as usize, *seed) {
+    match write_corpus(runs as usize, regroups as usize, seed) {
         Ok(()) => ExitCode::SUCCESS,
         Err(error) => {
             eprintln!("corpus: {error}");
@@ -50,46 +67,74 @@ fn main() -> ExitCode {
     }
 }
 
-fn write_corpus(number: usize, seed: u64) -> io::Result<()> {
+fn write_corpus(runs: usize, regroups: usize, seed: u64) -> io::Result<()> {
+    let of_runs = few_large(Cases::new(seed).map(Record::from), LARGE_RUNS);
+    let of_regroups = few_large(RegroupCases::new(seed).map(Record::from), LARGE_REGROUPS);
     let mut out = BufWriter::new(io::stdout().lock());
-    let mut numbers = [0; 11];
-    for (case, verdict) in first_cases().into_iter().chain(few_large(seed)).take(number) {
-        numbers[usize::from(verdict.number())] += 1;
-        out.write_all(&record(&case, &verdict))?;
-    }
-    eprintln!("numbers 0 to 10: {numbers:?}");
+    write_records(&mut out, first_runs().into_iter().chain(of_runs).take(runs))?;
+    write_records(&mut out, first_regroups().into_iter().chain(of_regroups).take(regroups))?;
     out.flush()
 }
 
-/// Random cases of which a few are large. A case that is not of the kind whose
+fn write_records(out: &mut impl Write, records: impl Iterator<Item = Record>) -> io::Result<()> {
+    let mut numbers = [0; 11];
+    for record in records {
+        numbers[usize::from(record.number)] += 1;
+        out.write_all(&record.bytes)?;
+    }
+    eprintln!("numbers 0 to 10: {numbers:?}");
+    Ok(())
+}
+
+/// Random records of which a few are large. One that is not of the kind whose
 /// turn it is, is left out.
-fn few_large(seed: u64) -> impl Iterator<Item = (Case, Verdict)> {
+fn few_large(records: impl Iterator<Item = Record>, large: Large) -> impl Iterator<Item = Record> {
     let mut taken = 1;
-    Cases::new(seed).filter(move |(case, verdict)| {
-        let large = record(case, verdict).len() > LARGE;
-        let fits = if taken % LARGE_EVERY == 0 {
-            let wanted = LARGE_NUMBERS[taken / LARGE_EVERY % LARGE_NUMBERS.len()];
-            large && wanted.is_none_or(|number| number == verdict.number())
+    records.filter(move |record| {
+        let is_large = record.bytes.len() > LARGE;
+        let fits = if taken % large.every == 0 {
+            let wanted = large.numbers[taken / large.every % large.numbers.len()];
+            is_large && wanted.is_none_or(|number| number == record.number)
         } else {
-            !large
+            !is_large
         };
         taken += usize::from(fits);
         fits
     })
 }
 
-fn record(case: &Case, verdict: &Verdict) -> Vec<u8> {
-    let mut record = Vec::new();
-    for bytes in [&case.query, &case.input, &case.joined] {
-        push_number(&mut record, bytes.len(), 2);
-        record.extend(bytes);
+/// The bytes of a record, and the number that it expects.
+struct Record {
+    bytes: Vec<u8>,
+    number: u8,
+}
+
+impl From<(Case, Verdict)> for Record {
+    fn from((case, verdict): (Case, Verdict)) -> Record {
+        record([&case.query, &case.input, &case.joined], case.work_length, case.result_length, &verdict)
     }
-    push_number(&mut record, case.work_length, 3);
-    push_number(&mut record, case.result_length, 2);
-    record.push(verdict.number());
-    push_number(&mut record, verdict.bytes().len(), 2);
-    record.extend(verdict.bytes());
-    record
+}
+
+impl From<(RegroupCase, Verdict)> for Record {
+    fn from((case, verdict): (RegroupCase, Verdict)) -> Record {
+        let marked = REGROUPS + case.work_length;
+        record([&case.query, &case.first, &case.second], marked, case.result_length, &verdict)
+    }
+}
+
+/// A record; the length of the work area has the mark of its call.
+fn record(read: [&[u8]; 3], work_length: usize, result_length: usize, verdict: &Verdict) -> Record {
+    let mut bytes = Vec::new();
+    for area in read {
+        push_number(&mut bytes, area.len(), 2);
+        bytes.extend(area);
+    }
+    push_number(&mut bytes, work_length, 3);
+    push_number(&mut bytes, result_length, 2);
+    bytes.push(verdict.number());
+    push_number(&mut bytes, verdict.bytes().len(), 2);
+    bytes.extend(verdict.bytes());
+    Record { bytes, number: verdict.number() }
 }
 
 /// A number in some bytes, high byte first.
@@ -100,57 +145,95 @@ fn push_number(record: &mut Vec<u8>, number: usize, bytes: usize) {
     record.extend(used);
 }
 
-/// One case for each number from 0 to 10, in order; each of 1 to 7 has the
+/// A query and an array that are malformed, and ones that are too long.
+const BAD: [u8; 3] = [1, 0, 1];
+static LONG_QUERY: [u8; 4_097] = [0; 4_097];
+static LONG: [u8; ARRAY_LIMIT + 1] = [0; ARRAY_LIMIT + 1];
+
+/// An array of no trees.
+const EMPTY: [u8; 3] = [1, 0, 0];
+
+/// One run for each number from 0 to 10, in order; each of 1 to 7 has the
 /// faults of the greater numbers too, as far as they can stand together.
-fn first_cases() -> Vec<(Case, Verdict)> {
-    let case = |query: &[u8], input: &[u8], joined: &[u8], work_length, result_length| Case {
-        query: query.to_vec(),
-        input: input.to_vec(),
-        joined: joined.to_vec(),
-        work_length,
-        result_length,
-    };
-    let (none, empty, bad) = ([16, 0, 0], [1, 0, 0], [1, 0, 1]);
-    let (long_query, long) = (vec![0; 4_097], vec![0; ARRAY_LIMIT + 1]);
+fn first_runs() -> Vec<Record> {
     let (grown, voids) = growing();
     let unwinds = query(&grown);
-    let with_group = query(&[&grown[..], &[Stage::Group { aggregates: vec![], grouping: vec![] }]].concat());
+    let with_group = query(&[&grown[..], &[group(&[], &[])]].concat());
     let large = Item::Place(Data::Literal(vec![Tree::void(); 400]), vec![1]);
     let with_large = query(&[&grown[..], &[Stage::Project(vec![large])]].concat());
-    let cases = [
-        case(&none, &empty, &empty, WORK_LEAST, 5),
-        case(&long_query, &bad, &bad, WORK_LEAST - 1, 5),
-        case(&long_query, &bad, &bad, WORK_LEAST, 5),
-        case(&bad, &bad, &bad, WORK_LEAST, 5),
-        case(&unwinds, &long, &bad, WORK_LEAST, 5),
-        case(&unwinds, &bad, &bad, WORK_LEAST, 5),
-        case(&unwinds, &voids, &long, WORK_LEAST, 5),
-        case(&unwinds, &voids, &bad, WORK_LEAST, 5),
-        case(&with_large, &voids, &empty, WORK_LEAST, 5),
-        case(&with_group, &voids, &empty, WORK_LEAST, 5),
-        case(&unwinds, &voids, &empty, WORK_LEAST, ARRAY_LIMIT),
-    ];
-    cases.into_iter().zip(0..).map(|(case, number)| with_number(case, number)).collect()
+    vec![
+        run(0, [&[16, 0, 0], &EMPTY, &EMPTY], WORK_LEAST, 5),
+        run(1, [&LONG_QUERY, &BAD, &BAD], WORK_LEAST - 1, 5),
+        run(2, [&LONG_QUERY, &BAD, &BAD], WORK_LEAST, 5),
+        run(3, [&BAD, &BAD, &BAD], WORK_LEAST, 5),
+        run(4, [&unwinds, &LONG, &BAD], WORK_LEAST, 5),
+        run(5, [&unwinds, &BAD, &BAD], WORK_LEAST, 5),
+        run(6, [&unwinds, &voids, &LONG], WORK_LEAST, 5),
+        run(7, [&unwinds, &voids, &BAD], WORK_LEAST, 5),
+        run(8, [&with_large, &voids, &EMPTY], WORK_LEAST, 5),
+        run(9, [&with_group, &voids, &EMPTY], WORK_LEAST, 5),
+        run(10, [&unwinds, &voids, &EMPTY], WORK_LEAST, ARRAY_LIMIT),
+    ]
 }
 
-/// A case with its verdict, which is to have a number.
-fn with_number(case: Case, number: u8) -> (Case, Verdict) {
-    let verdict =
-        decide(&case.query, &case.input, &case.joined, case.work_length, case.result_length, usize::MAX);
+/// A run, which is to have a number.
+fn run(number: u8, read: [&[u8]; 3], work_length: usize, result_length: usize) -> Record {
+    let [query, input, joined] = read.map(<[u8]>::to_vec);
+    let verdict = decide(&query, &input, &joined, work_length, result_length, usize::MAX);
     let verdict = verdict.expect("a list has no limit of its own");
     assert_eq!(verdict.number(), number, "a first case has the number it stands for");
-    (case, verdict)
+    Record::from((Case { query, input, joined, work_length, result_length }, verdict))
+}
+
+/// One regrouping for each number, in the order of the tests; each has the
+/// faults of the later ones too, as far as they can stand together.
+fn first_regroups() -> Vec<Record> {
+    let pair = |to: &[u8]| Pair { source: vec![3], destination: to.to_vec() };
+    let such = query(&[group(&[pair(&[1])], &[pair(&[2])])]);
+    let [two_labels, equal] = [&[1, 4][..], &[2]].map(|to| query(&[group(&[pair(to)], &[pair(&[2])])]));
+    let halves = vec![Tree::void().with(1, vec![Tree::void(); 200]); 7];
+    let (one, seven) = (array(&halves[..1]), array(&halves));
+    vec![
+        regroup(0, [&such, &EMPTY, &EMPTY], WORK_LEAST, 5),
+        regroup(1, [&LONG_QUERY, &LONG, &LONG], WORK_LEAST - 1, 5),
+        regroup(2, [&LONG_QUERY, &LONG, &LONG], WORK_LEAST, 5),
+        regroup(3, [&BAD, &LONG, &BAD], WORK_LEAST, 5),
+        regroup(3, [&two_labels, &BAD, &LONG], WORK_LEAST, 5),
+        regroup(3, [&equal, &BAD, &BAD], WORK_LEAST, 5),
+        regroup(4, [&such, &LONG, &BAD], WORK_LEAST, 5),
+        regroup(5, [&such, &BAD, &LONG], WORK_LEAST, 5),
+        regroup(4, [&such, &seven, &LONG], WORK_LEAST, 5),
+        regroup(5, [&such, &seven, &BAD], WORK_LEAST, 5),
+        regroup(9, [&such, &seven, &seven], WORK_LEAST, 5),
+        regroup(8, [&such, &one, &one], WORK_LEAST, 5),
+        regroup(10, [&such, &one, &EMPTY], WORK_LEAST, 5),
+    ]
+}
+
+/// A regrouping, which is to have a number.
+fn regroup(number: u8, read: [&[u8]; 3], work_length: usize, result_length: usize) -> Record {
+    let [query, first, second] = read.map(<[u8]>::to_vec);
+    let verdict = decide_regroup(&query, &first, &second, work_length, result_length);
+    assert_eq!(verdict.number(), number, "a first case has the number it stands for");
+    Record::from((RegroupCase { query, first, second, work_length, result_length }, verdict))
+}
+
+fn group(aggregates: &[Pair], grouping: &[Pair]) -> Stage {
+    Stage::Group { aggregates: aggregates.to_vec(), grouping: grouping.to_vec() }
 }
 
 fn query(stages: &[Stage]) -> Vec<u8> {
     encode_query(stages).expect("a few stages have a byte form")
 }
 
+fn array(trees: &[Tree]) -> Vec<u8> {
+    encode_array(trees).expect("a few trees have a byte form")
+}
+
 /// Document 01's unwinds that make 10,000 trees, and their input.
 fn growing() -> (Vec<Stage>, Vec<u8>) {
     let tree = Tree::void().with(1, vec![Tree::void(); 100]).with(2, vec![Tree::void(); 100]);
-    let input = encode_array(&[tree]).expect("a small array has a byte form");
-    (vec![Stage::Unwind(vec![1]), Stage::Unwind(vec![2])], input)
+    (vec![Stage::Unwind(vec![1]), Stage::Unwind(vec![2])], array(&[tree]))
 }
 
 #[cfg(test)]
@@ -159,13 +242,21 @@ mod tests {
 
     #[test]
     fn the_first_cases_have_their_numbers() {
-        assert_eq!(first_cases().len(), 11);
+        assert_eq!(first_runs().len(), 11);
+        assert_eq!(first_regroups().len(), 13);
     }
 
     #[test]
-    fn a_record_by_its_bytes() {
-        let (case, verdict) = &first_cases()[0];
+    fn a_run_by_its_bytes() {
         let expected = [0, 3, 16, 0, 0, 0, 3, 1, 0, 0, 0, 3, 1, 0, 0, 1, 0, 0, 0, 5, 0, 0, 3, 1, 0, 0];
-        assert_eq!(record(case, verdict), expected);
+        assert_eq!(first_runs()[0].bytes, expected);
+    }
+
+    #[test]
+    fn a_regrouping_by_its_bytes() {
+        let none = query(&[group(&[], &[])]);
+        let read = [0, 12, 16, 0, 9, 20, 0, 6, 50, 0, 0, 51, 0, 0, 0, 3, 1, 0, 0, 0, 3, 1, 0, 0];
+        let expected = [&read[..], &[129, 0, 0, 0, 5, 0, 0, 3, 1, 0, 0]].concat();
+        assert_eq!(regroup(0, [&none, &EMPTY, &EMPTY], WORK_LEAST, 5).bytes, expected);
     }
 }
