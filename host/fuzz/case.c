@@ -87,6 +87,7 @@ void case_read(struct fuzz_case *all, const uint8_t *data, size_t size)
         append(&all->read[area], data + bounds[area], bounds[area + 1] - bounds[area]);
         read_area(&all->read[area], area, head);
     }
+    all->regroups = head[0] >> 7;
     all->work_length = work_lengths[head[0] & 7];
     all->result_length = head[0] >> 6 & 1 ? TQUERY_ARRAY_MAX : length_at(head + 1) % (RESULT_LONGEST + 1);
 }

@@ -8,7 +8,9 @@
  *  0     bits 0 to 2: the work area's length, see case.c; bits 3, 4, 5: the
  *        query, the input, the joined array gets a head that spans it (else
  *        its bytes are the data's as they are); bit 6: the result area has
- *        16,384 bytes (else bytes 1 and 2 say how many)
+ *        16,384 bytes (else bytes 1 and 2 say how many); bit 7: the call is
+ *        tquery_regroup, and the input and the joined array are its first and
+ *        its second array (else it is tquery_run)
  *  1, 2  the result area's length, modulo 16,401
  *  3     bits 0 and 1, 2 and 3, 4 and 5: how the query, the input, the joined
  *        array is lengthened. 3: by zeros, to one byte past its limit. 2, of
@@ -29,8 +31,8 @@
 #define RESULT_LONGEST 16400
 #define READ_LONGEST 20480 /* of the query, the input and the joined array; longer ones are cut */
 
-/* The areas that are only read. */
-enum { QUERY, INPUT, JOINED, READ_AREAS };
+/* The areas that are only read; of a regrouping the last two are the first and the second array. */
+enum { QUERY, INPUT, JOINED, READ_AREAS, FIRST = INPUT, SECOND = JOINED };
 
 struct content {
     uint8_t bytes[READ_LONGEST];
@@ -41,6 +43,7 @@ struct fuzz_case {
     struct content read[READ_AREAS];
     size_t work_length;
     size_t result_length;
+    int regroups;
 };
 
 void case_read(struct fuzz_case *all, const uint8_t *data, size_t size);

@@ -136,23 +136,30 @@ static const struct {
 
 #define OF_RUN (int)(sizeof of_run / sizeof *of_run)
 
-static const char *const of_checks[] = {
+static const char *const of_others[] = {
     "check_array reads past the array",
     "check_array answers with a length",
     "check_array answers 6",
     "check_array answers by the array's place",
     "check_query answers 2 for 3",
     "check_query accepts what is malformed",
+    "regroup reads past the second array",
+    "regroup tests the arrays before it asks for such a group",
+    "regroup tests the second array before the first",
+    "regroup joins the second array before the first",
+    "regroup counts both heads of the join",
+    "regroup leaves a byte of the result area at 9",
 };
 
-enum { READS_PAST = OF_RUN, WITH_LENGTH, ANSWERS_6, BY_PLACE, QUERY_2, QUERY_0 };
+enum { READS_PAST = OF_RUN, WITH_LENGTH, ANSWERS_6, BY_PLACE, QUERY_2, QUERY_0,
+       PAST_SECOND, GROUP_LATE, SECOND_FIRST, SWAPPED, TWO_HEADS, LEFT_AT_9 };
 
 static int fault(void)
 {
     static int number = -1;
     if (number < 0) {
         number = atoi(getenv("FAULT"));
-        fprintf(stderr, "fault: %s\n", number < OF_RUN ? of_run[number].words : of_checks[number - OF_RUN]);
+        fprintf(stderr, "fault: %s\n", number < OF_RUN ? of_run[number].words : of_others[number - OF_RUN]);
     }
     return number;
 }
@@ -162,6 +169,11 @@ uint64_t __real_tquery_run(const uint8_t *query, size_t query_length,
                            const uint8_t *joined, size_t joined_length,
                            uint8_t *work, size_t work_length,
                            uint8_t *result, size_t result_length);
+uint64_t __real_tquery_regroup(const uint8_t *query, size_t query_length,
+                               const uint8_t *first, size_t first_length,
+                               const uint8_t *second, size_t second_length,
+                               uint8_t *work, size_t work_length,
+                               uint8_t *result, size_t result_length);
 uint64_t __real_tquery_check_array(const uint8_t *bytes, size_t length);
 uint64_t __real_tquery_check_query(const uint8_t *bytes, size_t length);
 
@@ -212,4 +224,47 @@ uint64_t __wrap_tquery_check_query(const uint8_t *bytes, size_t length)
     default:
         return answer;
     }
+}
+
+/* What a regrouping with a fault answers, by the arrays' own answers and the answer of the engine. */
+static uint64_t regroup_fault(uint64_t answer, uint64_t query, uint64_t first, uint64_t second,
+                              size_t both_lengths)
+{
+    unsigned number = TQUERY_NUMBER(answer);
+    int ran = number == TQUERY_ACCEPTED || number >= TQUERY_TREE_LARGE;
+    int of_arrays = number == TQUERY_INPUT_LONG || number == TQUERY_INPUT_MALFORMED;
+    switch (fault()) {
+    case GROUP_LATE:
+        return number == TQUERY_QUERY_MALFORMED && query == 0 && first != 0 ? first : answer;
+    case SECOND_FIRST:
+        return of_arrays && second != 0 ? second : answer;
+    case TWO_HEADS:
+        return ran && both_lengths > TQUERY_ARRAY_MAX ? 9ull << 32 : answer;
+    default:
+        return answer;
+    }
+}
+
+uint64_t __wrap_tquery_regroup(const uint8_t *query, size_t query_length,
+                               const uint8_t *first, size_t first_length,
+                               const uint8_t *second, size_t second_length,
+                               uint8_t *work, size_t work_length,
+                               uint8_t *result, size_t result_length)
+{
+    uint64_t checks[3] = {__real_tquery_check_query(query, query_length),
+                          __real_tquery_check_array(first, first_length),
+                          __real_tquery_check_array(second, second_length)};
+    int swapped = fault() == SWAPPED && checks[1] == 0 && checks[2] == 0;
+    uint64_t answer = __real_tquery_regroup(query, query_length, swapped ? second : first,
+                                            swapped ? second_length : first_length,
+                                            swapped ? first : second,
+                                            swapped ? first_length : second_length,
+                                            work, work_length, result, result_length);
+    if (fault() == PAST_SECOND) {
+        seen = second[second_length];
+    }
+    if (fault() == LEFT_AT_9 && TQUERY_NUMBER(answer) == TQUERY_GROUP_LONG && result_length > 0) {
+        result[result_length / 2] = 1;
+    }
+    return regroup_fault(answer, checks[0], checks[1], checks[2], first_length + second_length);
 }

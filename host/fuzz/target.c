@@ -9,6 +9,7 @@
 #define _DEFAULT_SOURCE
 #include "area.h"
 #include "case.h"
+#include "regroup.h"
 #include "tquery.h"
 
 #include <setjmp.h>
@@ -37,7 +38,8 @@ static struct area result;
 static uint8_t noises[2][ROOM_LONGEST];
 static const uint8_t zeros[ROOM_LONGEST];
 
-static unsigned long counts[NUMBERS];
+/* Cases by number: runs, and regroupings. */
+static unsigned long counts[2][NUMBERS];
 static unsigned long abandoned;
 static sigjmp_buf out_of_patience;
 
@@ -58,11 +60,15 @@ static void expect(int holds, const char *words)
 
 static void print_counts(void)
 {
-    fprintf(stderr, "cases by number:");
-    for (int number = 0; number < NUMBERS; number++) {
-        fprintf(stderr, " %d: %lu", number, counts[number]);
+    static const char *const calls[2] = {"runs", "regroupings"};
+    for (int call = 0; call < 2; call++) {
+        fprintf(stderr, "%s by number:", calls[call]);
+        for (int number = 0; number < NUMBERS; number++) {
+            fprintf(stderr, " %d: %lu", number, counts[call][number]);
+        }
+        fprintf(stderr, "\n");
     }
-    fprintf(stderr, "; abandoned: %lu\n", abandoned);
+    fprintf(stderr, "abandoned: %lu\n", abandoned);
 }
 
 static void leave(int signal)
@@ -116,12 +122,12 @@ static void lay(const struct fuzz_case *all, enum place place, const uint8_t *no
 }
 
 /* The engine's four answers to the case as it is laid. */
-static void call(struct outcome *outcome)
+static void call(struct outcome *outcome, int regroups)
 {
     const struct area *read = read_areas;
-    outcome->answer = tquery_run(read[QUERY].bytes, read[QUERY].length, read[INPUT].bytes,
-                                 read[INPUT].length, read[JOINED].bytes, read[JOINED].length,
-                                 work.bytes, work.length, result.bytes, result.length);
+    outcome->answer = (regroups ? tquery_regroup : tquery_run)(
+        read[QUERY].bytes, read[QUERY].length, read[INPUT].bytes, read[INPUT].length,
+        read[JOINED].bytes, read[JOINED].length, work.bytes, work.length, result.bytes, result.length);
     outcome->checks[QUERY] = tquery_check_query(read[QUERY].bytes, read[QUERY].length);
     outcome->checks[INPUT] = tquery_check_array(read[INPUT].bytes, read[INPUT].length);
     outcome->checks[JOINED] = tquery_check_array(read[JOINED].bytes, read[JOINED].length);
@@ -168,31 +174,57 @@ static unsigned check_number(const struct outcome *outcome, int area, unsigned f
 }
 
 /* The number that the lengths and the checks already decide, or 0. */
-static unsigned decided(const struct outcome *outcome)
+static unsigned decided(const struct outcome *outcome, int regroups)
 {
+    uint8_t again[AGAIN_LONGEST];
+    const struct area *read = read_areas;
     unsigned query = check_number(outcome, QUERY, TQUERY_QUERY_LONG, TQUERY_QUERY_MAX);
     unsigned input = check_number(outcome, INPUT, TQUERY_INPUT_LONG, TQUERY_ARRAY_MAX);
     unsigned joined = check_number(outcome, JOINED, TQUERY_INPUT_LONG, TQUERY_ARRAY_MAX);
     if (work.length < TQUERY_WORK_MIN) {
         return TQUERY_WORK_SHORT;
     }
+    if (query == 0 && regroups && regrouping(again, read[QUERY].bytes, read[QUERY].length) == 0) {
+        return TQUERY_QUERY_MALFORMED;
+    }
     if (query != 0 || input != 0) {
         return query != 0 ? query : input;
     }
-    return joined == 0 ? 0 : joined - TQUERY_INPUT_LONG + TQUERY_JOINED_LONG;
+    if (joined != 0) {
+        return regroups ? joined : joined - TQUERY_INPUT_LONG + TQUERY_JOINED_LONG;
+    }
+    int long_join = regroups && join_length(read[FIRST].length, read[SECOND].length) > TQUERY_ARRAY_MAX;
+    return long_join ? TQUERY_GROUP_LONG : 0;
 }
 
-static void check_outcome(const struct outcome *outcome, const uint8_t *noise)
+/* A regrouping answers as the run of the group made anew over the two arrays joined. */
+static void check_regrouped(const struct outcome *outcome)
+{
+    static uint8_t again[AGAIN_LONGEST], both[TQUERY_ARRAY_MAX], own_work[TQUERY_WORK_MIN], own[RESULT_LONGEST];
+    static const uint8_t none[] = {1, 0, 0};
+    const struct area *read = read_areas;
+    size_t length = regrouping(again, read[QUERY].bytes, read[QUERY].length);
+    join(both, read[FIRST].bytes, read[FIRST].length, read[SECOND].bytes, read[SECOND].length);
+    uint64_t answer = tquery_run(again, length, both, join_length(read[FIRST].length, read[SECOND].length),
+                                 none, sizeof none, own_work, sizeof own_work, own, result.length);
+    expect(answer == outcome->answer, "a regrouping answers as the run over the join");
+    expect(memcmp(own, outcome->result, TQUERY_LENGTH(answer)) == 0, "a regrouping gives what the run gives");
+}
+
+static void check_outcome(const struct outcome *outcome, const uint8_t *noise, int regroups)
 {
     unsigned number = TQUERY_NUMBER(outcome->answer);
     size_t length = TQUERY_LENGTH(outcome->answer);
-    unsigned by_checks = decided(outcome);
+    unsigned by_checks = decided(outcome, regroups);
     expect(number < NUMBERS, "the number is one of the table");
     expect(number == TQUERY_ACCEPTED || length == 0, "a refusal has length 0");
     expect(by_checks != 0 ? number == by_checks : number == 0 || number >= TQUERY_TREE_LARGE,
-           "the run and the checks agree");
+           "the call and the checks agree");
     check_work(number, noise);
     check_result(number, length, noise);
+    if (regroups && by_checks == 0) {
+        check_regrouped(outcome);
+    }
 }
 
 static void check_same(const struct outcome *one, const struct outcome *other)
@@ -218,11 +250,11 @@ int LLVMFuzzerTestOneInput(const uint8_t *data, size_t size)
     for (int turn = 0; turn < 2; turn++) {
         lay(&all, places[turn], noises[turn]);
         set_patience(PATIENCE);
-        call(&outcomes[turn]);
+        call(&outcomes[turn], all.regroups);
         set_patience(0);
-        check_outcome(&outcomes[turn], noises[turn]);
+        check_outcome(&outcomes[turn], noises[turn], all.regroups);
     }
     check_same(&outcomes[0], &outcomes[1]);
-    counts[TQUERY_NUMBER(outcomes[0].answer)]++;
+    counts[all.regroups][TQUERY_NUMBER(outcomes[0].answer)]++;
     return 0;
 }

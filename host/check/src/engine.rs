@@ -14,6 +14,18 @@ mod c {
             result: *mut u8,
             result_length: usize,
         ) -> u64;
+        pub fn tquery_regroup(
+            query: *const u8,
+            query_length: usize,
+            first: *const u8,
+            first_length: usize,
+            second: *const u8,
+            second_length: usize,
+            work: *mut u8,
+            work_length: usize,
+            result: *mut u8,
+            result_length: usize,
+        ) -> u64;
         pub fn tquery_check_array(bytes: *const u8, length: usize) -> u64;
         pub fn tquery_check_query(bytes: *const u8, length: usize) -> u64;
     }
@@ -32,24 +44,46 @@ impl From<u64> for Answer {
     }
 }
 
-pub fn run(query: &[u8], input: &[u8], joined: &[u8], work: &mut [u8], result: &mut [u8]) -> Answer {
-    // SAFETY: slices are never null and as long as they say; the two that are
-    // written are borrowed alone, so they overlap no other.
-    let answer = unsafe {
-        c::tquery_run(
-            query.as_ptr(),
-            query.len(),
-            input.as_ptr(),
-            input.len(),
-            joined.as_ptr(),
-            joined.len(),
-            work.as_mut_ptr(),
-            work.len(),
-            result.as_mut_ptr(),
-            result.len(),
-        )
-    };
-    answer.into()
+/// A call that writes: both take a query, two arrays, a work and a result area.
+#[derive(Clone, Copy, Debug, PartialEq, Eq)]
+pub enum Call {
+    Run,
+    Regroup,
+}
+
+impl Call {
+    /// The names of the areas that are only read.
+    pub fn names(self) -> [&'static str; 3] {
+        match self {
+            Call::Run => ["query", "input", "joined array"],
+            Call::Regroup => ["query", "first array", "second array"],
+        }
+    }
+
+    pub fn make(self, read: [&[u8]; 3], work: &mut [u8], result: &mut [u8]) -> Answer {
+        let call = match self {
+            Call::Run => c::tquery_run,
+            Call::Regroup => c::tquery_regroup,
+        };
+        let [query, one, other] = read;
+        // SAFETY: slices are never null and as long as they say; the two that are
+        // written are borrowed alone, so they overlap no other.
+        let answer = unsafe {
+            call(
+                query.as_ptr(),
+                query.len(),
+                one.as_ptr(),
+                one.len(),
+                other.as_ptr(),
+                other.len(),
+                work.as_mut_ptr(),
+                work.len(),
+                result.as_mut_ptr(),
+                result.len(),
+            )
+        };
+        answer.into()
+    }
 }
 
 pub fn check_array(bytes: &[u8]) -> Answer {

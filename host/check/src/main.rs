@@ -1,19 +1,21 @@
 //! `check [N] [SEED]`: the engine beside the reference on N random cases.
 //!
-//! Compared are the number, the length, every byte of the result area, the
-//! work area, the three areas that are only read, guard bytes around all five,
-//! and the two calls that only check. Ends with a table of how many cases of
-//! each number agreed, or with status 1 and the first case that differs.
+//! Two of three are runs, and the third a regrouping. Compared are the number,
+//! the length, every byte of the result area, the work area, the three areas
+//! that are only read, guard bytes around all five, and the two calls that only
+//! check. Ends with a table of how many cases of each number agreed, or with
+//! status 1 and the first case that differs.
 
 mod area;
 mod engine;
 mod lent;
+mod trial;
 
+use engine::Call;
 use lent::Lent;
-use reference::generate::{Case, Cases};
-use reference::run::Verdict;
 use std::process::ExitCode;
 use std::time::{Duration, Instant, SystemTime, UNIX_EPOCH};
+use trial::{trials, Trial};
 
 const DEFAULT_CASES: u64 = 1_000_000;
 const BETWEEN_REPORTS: Duration = Duration::from_secs(5);
@@ -36,24 +38,33 @@ fn seed_of_now() -> u64 {
     SystemTime::now().duration_since(UNIX_EPOCH).map_or(0, |since| since.as_micros() as u64)
 }
 
-/// How many cases of each number have agreed, and since when.
+/// The numbers of the table, 0 among them.
+const NUMBERS: usize = 11;
+
+/// How many cases of each number have agreed, by call, and since when.
 struct Progress {
-    agreed: [u64; 11],
+    runs: [u64; NUMBERS],
+    regroups: [u64; NUMBERS],
     begun: Instant,
     reported: Instant,
 }
 
 impl Progress {
     fn new() -> Progress {
-        Progress { agreed: [0; 11], begun: Instant::now(), reported: Instant::now() }
+        let none = [0; NUMBERS];
+        Progress { runs: none, regroups: none, begun: Instant::now(), reported: Instant::now() }
     }
 
     fn cases(&self) -> u64 {
-        self.agreed.iter().sum()
+        self.runs.iter().chain(&self.regroups).sum()
     }
 
-    fn count(&mut self, number: u8, of: u64) {
-        self.agreed[usize::from(number)] += 1;
+    fn count(&mut self, trial: &Trial, of: u64) {
+        let agreed = match trial.call {
+            Call::Run => &mut self.runs,
+            Call::Regroup => &mut self.regroups,
+        };
+        agreed[usize::from(trial.verdict.number())] += 1;
         if self.reported.elapsed() >= BETWEEN_REPORTS {
             self.reported = Instant::now();
             eprintln!("{} of {of} cases, {} a second", self.cases(), self.rate());
@@ -65,11 +76,12 @@ impl Progress {
     }
 
     fn print(&self) {
-        println!("number  cases that agree");
-        for (number, cases) in self.agreed.iter().enumerate() {
-            println!("{number:>6}  {cases:>16}");
+        println!("number  runs that agree  regroupings that agree");
+        for (number, (runs, regroups)) in self.runs.iter().zip(self.regroups).enumerate() {
+            println!("{number:>6}  {runs:>15}  {regroups:>22}");
         }
-        println!("   all  {:>16}", self.cases());
+        let [runs, regroups]: [u64; 2] = [self.runs, self.regroups].map(|cases| cases.iter().sum());
+        println!("   all  {runs:>15}  {regroups:>22}");
         eprintln!("{} cases a second", self.rate());
     }
 }
@@ -78,26 +90,27 @@ fn compare(number: u64, seed: u64) -> ExitCode {
     println!("{number} cases from seed {seed}");
     let mut lent = Lent::new(seed);
     let mut progress = Progress::new();
-    let mut cases = Cases::new(seed);
+    let mut trials = trials(seed);
     for _ in 0..number {
-        let (case, verdict) = cases.next().expect("cases have no end");
-        if let Some(difference) = lent.difference(&case, &verdict) {
+        let trial = trials.next().expect("trials have no end");
+        if let Some(difference) = lent.difference(&trial) {
             progress.print();
-            print_case(&case, &verdict, &difference, lent.result());
+            print_trial(&trial, &difference, lent.result());
             return ExitCode::FAILURE;
         }
-        progress.count(verdict.number(), number);
+        progress.count(&trial, number);
     }
     progress.print();
     ExitCode::SUCCESS
 }
 
-fn print_case(case: &Case, verdict: &Verdict, difference: &str, result: &[u8]) {
-    println!("DIFFERS: {difference}");
-    println!("query {}", hexadecimal(&case.query));
-    println!("input {}", hexadecimal(&case.input));
-    println!("joined {}", hexadecimal(&case.joined));
-    println!("work length {}, result length {}", case.work_length, case.result_length);
+fn print_trial(trial: &Trial, difference: &str, result: &[u8]) {
+    println!("DIFFERS, {:?}: {difference}", trial.call);
+    for (name, bytes) in trial.call.names().iter().zip(&trial.read) {
+        println!("{name} {}", hexadecimal(bytes));
+    }
+    println!("work length {}, result length {}", trial.work_length, trial.result_length);
+    let verdict = &trial.verdict;
     println!("by the reference: number {}, result {}", verdict.number(), hexadecimal(verdict.bytes()));
     println!("the engine's result area {}", hexadecimal(result));
 }

@@ -6,8 +6,10 @@
 //! Most cases are accepted, since an answer with bytes says most.
 
 mod damage;
+mod day;
 mod draw;
 mod random;
+mod regroup;
 
 use crate::bytes::{
     encode_array, encode_query, AGGREGATES_LIMIT, GROUPING_LIMIT, ITEMS_LIMIT, LIST_LIMIT, NESTING_LIMIT,
@@ -16,7 +18,10 @@ use crate::bytes::{
 use crate::run::{decide, Verdict, WORK_LEAST};
 use crate::stages::{Criterion, Data, Item, Pair, Stage};
 use crate::tree::{array_size, Tree, ARRAY_LIMIT, DEPTH_LIMIT, HEAD, TEXT_LIMIT, TREE_LIMIT};
+pub use day::{day, Day};
+pub use draw::filled;
 pub use random::Random;
+pub use regroup::{RegroupCase, RegroupCases};
 
 /// The longest query, input, joined array and result area of a case.
 pub const LONGEST: usize = 20_000;

@@ -11,10 +11,12 @@
 //! - [`bytes`]: the byte form of arrays and queries, both ways
 //! - [`stages`]: what a query is, and what each stage does to a list
 //! - [`run`]: the tests in their order, and the run
+//! - [`regroup`]: a day in trays, and the call that joins their results
 //! - [`generate`]: random cases from a seed
 
 pub mod bytes;
 pub mod generate;
+pub mod regroup;
 pub mod run;
 pub mod stages;
 pub mod tree;

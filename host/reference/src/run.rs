@@ -66,7 +66,7 @@ impl Verdict {
 
 /// Why a run ended without a result.
 #[derive(Clone, Copy, Debug, PartialEq, Eq)]
-enum Stop {
+pub(crate) enum Stop {
     Refused(u8),
     /// The list grew past what the caller will wait for; see [`decide`].
     TooLong,
@@ -118,16 +118,25 @@ struct Admitted {
 /// Tests 1 to 7: what the bytes say, or the first refusal.
 fn admitted(query: &[u8], input: &[u8], joined: &[u8], work_length: usize) -> Result<Admitted, Stop> {
     refuse(1, work_length < WORK_LEAST)?;
-    refuse(2, query.len() > QUERY_LIMIT)?;
-    let stages = decode_query(query).ok_or(Stop::Refused(3))?;
-    refuse(4, input.len() > ARRAY_LIMIT)?;
-    let input = decode_array(input).ok_or(Stop::Refused(5))?;
-    refuse(6, joined.len() > ARRAY_LIMIT)?;
-    let joined = decode_array(joined).ok_or(Stop::Refused(7))?;
+    let stages = query_within(query)?;
+    let input = array_within(input, 4, 5)?;
+    let joined = array_within(joined, 6, 7)?;
     Ok(Admitted { stages, input, joined })
 }
 
-fn refuse(number: u8, fault: bool) -> Result<(), Stop> {
+/// Tests 2 and 3: what a query says.
+pub(crate) fn query_within(bytes: &[u8]) -> Result<Vec<Stage>, Stop> {
+    refuse(2, bytes.len() > QUERY_LIMIT)?;
+    decode_query(bytes).ok_or(Stop::Refused(3))
+}
+
+/// What an array holds, or the number for one that is long or for one that is malformed.
+pub(crate) fn array_within(bytes: &[u8], long: u8, malformed: u8) -> Result<Vec<Tree>, Stop> {
+    refuse(long, bytes.len() > ARRAY_LIMIT)?;
+    decode_array(bytes).ok_or(Stop::Refused(malformed))
+}
+
+pub(crate) fn refuse(number: u8, fault: bool) -> Result<(), Stop> {
     if fault {
         Err(Stop::Refused(number))
     } else {
@@ -136,7 +145,7 @@ fn refuse(number: u8, fault: bool) -> Result<(), Stop> {
 }
 
 /// The stages in their order, each over the whole list.
-fn after_stages(
+pub(crate) fn after_stages(
     stages: &[Stage],
     input: Vec<Tree>,
     joined: &[Tree],
@@ -155,7 +164,7 @@ fn after_stages(
 }
 
 /// The end of a run: the bytes, if they are within the limit and the area.
-fn written(trees: &[Tree], result_length: usize) -> Result<Vec<u8>, Stop> {
+pub(crate) fn written(trees: &[Tree], result_length: usize) -> Result<Vec<u8>, Stop> {
     let size = array_size(trees);
     refuse(10, size > ARRAY_LIMIT || size > result_length)?;
     let bytes = encode_array(trees).expect("an array within the limit has a byte form");

@@ -1,7 +1,7 @@
 //! What a call leaves on the stack of the records that it was lent.
 
+use crate::lending::Lending;
 use reference::bytes::tags;
-use reference::generate::Case;
 use std::collections::HashSet;
 
 /// A text and an integer of distinctive bytes, for records.
@@ -46,11 +46,13 @@ const MASK: u8 = 0x49;
 
 /// An admitted case with other texts and integers, of which the same ones are equal as
 /// before; and whether its query reduces integers, after which others may be.
-pub fn masked(case: &Case) -> (Case, bool) {
+pub fn masked(case: &Lending) -> (Lending, bool) {
     let mut other = case.clone();
-    mask(&mut other.input);
-    mask(&mut other.joined);
-    let reduces = mask(&mut other.query);
+    let [query, arrays @ ..] = &mut other.read;
+    arrays.iter_mut().for_each(|array| {
+        mask(array);
+    });
+    let reduces = mask(query);
     (other, reduces)
 }
 

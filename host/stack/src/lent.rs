@@ -1,11 +1,13 @@
 //! The engine's calls on a painted stack, over areas that stay where they are.
 
-use crate::painted::{Call, Painted};
-use reference::generate::{Case, LONGEST, LONGEST_WORK};
+use crate::lending::{Call, Lending};
+use crate::painted::{self, Painted};
+use reference::generate::{LONGEST, LONGEST_WORK};
 
 mod c {
     extern "C" {
         pub fn tquery_run();
+        pub fn tquery_regroup();
         pub fn tquery_check_array();
         pub fn tquery_check_query();
     }
@@ -25,49 +27,46 @@ impl Lent {
         Lent { read, work: vec![0; LONGEST_WORK], result: vec![0; LONGEST], stack: Painted::new() }
     }
 
-    /// Runs a case. Answers the number.
-    pub fn run(&mut self, case: &Case) -> u8 {
-        let given = [&case.query, &case.input, &case.joined];
-        for (area, bytes) in self.read.iter_mut().zip(given) {
+    /// Makes a call. Answers the number.
+    pub fn call(&mut self, case: &Lending) -> u8 {
+        for (area, bytes) in self.read.iter_mut().zip(&case.read) {
             area[..bytes.len()].copy_from_slice(bytes);
         }
-        let [query, input, joined] = [0, 1, 2].map(|area: usize| self.read[area].as_ptr() as usize);
-        let (work, result) = (self.work.as_mut_ptr() as usize, self.result.as_mut_ptr() as usize);
-        let [query_length, input_length, joined_length] = given.map(|bytes| bytes.len());
-        let arguments = [
-            query,
-            query_length,
-            input,
-            input_length,
-            joined,
-            joined_length,
-            work,
-            case.work_length,
-            result,
-            case.result_length,
-        ];
-        let call = Call { function: c::tquery_run as *const (), arguments };
+        let call = match case.call {
+            Call::Run => self.writing(c::tquery_run as *const (), case),
+            Call::Regroup => self.writing(c::tquery_regroup as *const (), case),
+            Call::CheckQuery => self.checking(c::tquery_check_query as *const (), case, 0),
+            Call::CheckArray => self.checking(c::tquery_check_array as *const (), case, 1),
+        };
         // SAFETY: the areas are as long as said or longer, and lie apart.
         let answer = unsafe { self.stack.call(&call) };
         (answer >> 32) as u8
     }
 
-    /// Checks the query of a case. Answers the number.
-    pub fn check_query(&mut self, case: &Case) -> u8 {
-        self.check(c::tquery_check_query as *const (), &case.query)
+    /// A call that is lent all five areas.
+    fn writing(&mut self, function: *const (), case: &Lending) -> painted::Call {
+        let [query, one, other] = [0, 1, 2].map(|area: usize| self.read[area].as_ptr() as usize);
+        let (work, result) = (self.work.as_mut_ptr() as usize, self.result.as_mut_ptr() as usize);
+        let [query_length, one_length, other_length] = [0, 1, 2].map(|area: usize| case.read[area].len());
+        let arguments = [
+            query,
+            query_length,
+            one,
+            one_length,
+            other,
+            other_length,
+            work,
+            case.work_length,
+            result,
+            case.result_length,
+        ];
+        painted::Call { function, arguments }
     }
 
-    /// Checks the input of a case. Answers the number.
-    pub fn check_array(&mut self, case: &Case) -> u8 {
-        self.check(c::tquery_check_array as *const (), &case.input)
-    }
-
-    fn check(&mut self, function: *const (), bytes: &[u8]) -> u8 {
-        self.read[0][..bytes.len()].copy_from_slice(bytes);
+    /// A call that checks one of the areas that are only read.
+    fn checking(&self, function: *const (), case: &Lending, area: usize) -> painted::Call {
         let mut arguments = [0; 10];
-        arguments[..2].copy_from_slice(&[self.read[0].as_ptr() as usize, bytes.len()]);
-        // SAFETY: the area is as long as said or longer.
-        let answer = unsafe { self.stack.call(&Call { function, arguments }) };
-        (answer >> 32) as u8
+        arguments[..2].copy_from_slice(&[self.read[area].as_ptr() as usize, case.read[area].len()]);
+        painted::Call { function, arguments }
     }
 }

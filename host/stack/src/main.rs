@@ -2,7 +2,7 @@
 //! leave there.
 //!
 //! Calls run on a stack of their own that is painted before. Measured are
-//! cases made to go deep, and N random ones. Ends with status 1 if a call used
+//! cases made to go deep, N random runs and half as many regroupings. Ends with status 1 if a call used
 //! more than [`BOUND`], or if more than [`TOGETHER`] bytes of a record stayed
 //! behind together.
 //!
@@ -13,13 +13,15 @@
 //! byte of the stack that differs then depends on what the records hold.
 
 mod left;
+mod lending;
 mod lent;
 mod painted;
 mod worst;
 
 use left::{differing, distinctive, masked, Runs};
+use lending::{Call, Lending};
 use lent::Lent;
-use reference::generate::{Case, Cases};
+use reference::generate::{Cases, RegroupCases};
 use std::collections::BTreeMap;
 use std::process::ExitCode;
 
@@ -76,7 +78,7 @@ struct Left {
 
 #[derive(Default)]
 struct Measured {
-    kinds: BTreeMap<String, Kind>,
+    kinds: BTreeMap<(Call, String), Kind>,
     left: Left,
 }
 
@@ -84,25 +86,32 @@ fn measure(number: u64, seed: u64) -> Measured {
     let mut measured = Measured::default();
     let mut lent = Lent::new();
     measured.deep(&mut lent);
-    for (case, _) in Cases::new(seed).take(number as usize) {
-        let answer = lent.run(&case);
-        measured.count(format!("random, number {answer:>2}"), answer, lent.stack.used());
-        if matches!(answer, 0 | 8..) {
-            let (other, reduces) = masked(&case);
-            if !reduces {
-                measured.left.compare(&mut lent, answer, &other);
-            }
-        }
-    }
+    let runs = Cases::new(seed).take(number as usize).map(|(case, _)| case.into());
+    let regroups = RegroupCases::new(seed).take(number as usize / 2).map(|(case, _)| case.into());
+    runs.chain(regroups).for_each(|case| measured.random(&mut lent, &case));
     measured
 }
 
 impl Measured {
-    fn count(&mut self, kind: String, number: u8, used: usize) {
-        let kind = self.kinds.entry(kind).or_default();
+    /// Makes a call and counts it. Answers the number.
+    fn count(&mut self, lent: &mut Lent, case: &Lending, kind: &str) -> u8 {
+        let number = lent.call(case);
+        let kind = self.kinds.entry((case.call, kind.replace('#', &format!("{number:>2}")))).or_default();
         kind.calls += 1;
         kind.accepted += u64::from(number == 0);
-        kind.deepest = kind.deepest.max(used);
+        kind.deepest = kind.deepest.max(lent.stack.used());
+        number
+    }
+
+    /// A random case. One that was admitted is run a second time, with other records.
+    fn random(&mut self, lent: &mut Lent, case: &Lending) {
+        let number = self.count(lent, case, "random, number #");
+        if matches!(number, 0 | 8..) {
+            let (other, reduces) = masked(case);
+            if !reduces {
+                self.left.compare(lent, number, &other);
+            }
+        }
     }
 
     /// The cases made to go deep. All integers of their records are equal, so
@@ -111,19 +120,24 @@ impl Measured {
         let contents = distinctive();
         let runs = Runs::new(&contents);
         for deep in worst::cases(&contents) {
-            let number = lent.run(&deep.case);
-            self.count(deep.kind.into(), number, lent.stack.used());
+            let number = self.count(lent, &deep.case, deep.kind);
             self.left.runs += runs.found_in(lent.stack.left());
             self.left.compare(lent, number, &masked(&deep.case).0);
-            let number = lent.check_query(&deep.case);
-            self.count("check_query".into(), number, lent.stack.used());
-            let number = lent.check_array(&deep.case);
-            self.count("check_array".into(), number, lent.stack.used());
+            if deep.case.call == Call::Run {
+                self.count(lent, &deep.case.to(Call::CheckQuery), "deep");
+                self.count(lent, &deep.case.to(Call::CheckArray), "deep");
+            }
         }
     }
 
+    /// The deepest use of the calls that are asked for.
+    fn deepest_of(&self, asked: impl Fn(Call) -> bool) -> usize {
+        let kinds = self.kinds.iter().filter(|((call, _), _)| asked(*call));
+        kinds.map(|(_, kind)| kind.deepest).max().unwrap_or(0)
+    }
+
     fn deepest(&self) -> usize {
-        self.kinds.values().map(|kind| kind.deepest).max().unwrap_or(0)
+        self.deepest_of(|_| true)
     }
 
     fn passes(&self) -> bool {
@@ -131,9 +145,10 @@ impl Measured {
     }
 
     fn print(&self) {
-        println!("{:<28} {:>8} {:>8} {:>8}", "kind", "calls", "accepted", "bytes");
-        for (name, kind) in &self.kinds {
-            println!("{name:<28} {:>8} {:>8} {:>8}", kind.calls, kind.accepted, kind.deepest);
+        println!("{:<11} {:<28} {:>8} {:>8} {:>8}", "call", "kind", "calls", "accepted", "bytes");
+        for ((call, name), kind) in &self.kinds {
+            let call = format!("{call:?}");
+            println!("{call:<11} {name:<28} {:>8} {:>8} {:>8}", kind.calls, kind.accepted, kind.deepest);
         }
         println!("deepest use: {} bytes; the bound is {BOUND}", self.deepest());
         let Left { runs, compared, all, most, together } = self.left;
@@ -148,9 +163,9 @@ impl Measured {
 impl Left {
     /// Runs the case that a call, which has just been made and had a number,
     /// is to be compared with.
-    fn compare(&mut self, lent: &mut Lent, number: u8, other: &Case) {
+    fn compare(&mut self, lent: &mut Lent, number: u8, other: &Lending) {
         let left = lent.stack.left().to_vec();
-        assert_eq!(lent.run(other), number, "the number does not depend on which records are equal");
+        assert_eq!(lent.call(other), number, "the number does not depend on which records are equal");
         let (all, together) = differing(&left, lent.stack.left());
         self.compared += 1;
         self.all += all;
@@ -190,13 +205,14 @@ mod tests {
     #[test]
     fn calls_use_no_more_than_the_header_says() {
         assert_eq!(said("TQUERY_STACK_MAX"), BOUND);
-        let measured = measured();
-        for (call, used) in [
-            ("tquery_run", measured.deepest()),
-            ("tquery_check_query", measured.kinds["check_query"].deepest),
-            ("tquery_check_array", measured.kinds["check_array"].deepest),
+        for (call, name) in [
+            (Call::Run, "tquery_run"),
+            (Call::Regroup, "tquery_regroup"),
+            (Call::CheckQuery, "tquery_check_query"),
+            (Call::CheckArray, "tquery_check_array"),
         ] {
-            assert!(used <= said(call), "{call}: {used} bytes used, {} said", said(call));
+            let used = measured().deepest_of(|asked| asked == call);
+            assert!(used <= said(name), "{name}: {used} bytes used, {} said", said(name));
         }
     }
 
@@ -204,8 +220,8 @@ mod tests {
     fn deep_cases_go_their_way() {
         let mut lent = Lent::new();
         for deep in worst::cases(&distinctive()) {
-            let accepted = lent.run(&deep.case) == 0;
-            assert_eq!(accepted, deep.kind != worst::REFUSED, "{}", deep.kind);
+            let accepted = lent.call(&deep.case) == 0;
+            assert_eq!(accepted, !worst::REFUSED.contains(&deep.kind), "{}", deep.kind);
         }
     }
 }

@@ -5,11 +5,12 @@
 //! path and each level of a tree. So the cases have some groups, then stages of
 //! one kind, then a last stage that goes deep in its own way, eight in all, over
 //! a tree of depth 16. Behind them stand cases that nest far past the limits,
-//! for the checks.
+//! for the checks, and regroupings: of few pairs and of many.
 
 use crate::left::Contents;
-use reference::bytes::{encode_array, encode_query, NESTING_LIMIT, PATH_LIMIT, STAGES_LIMIT};
-use reference::generate::Case;
+use crate::lending::{Call, Lending};
+use reference::bytes::{encode_array, encode_query};
+use reference::bytes::{AGGREGATES_LIMIT, GROUPING_LIMIT, NESTING_LIMIT, PATH_LIMIT, STAGES_LIMIT};
 use reference::run::WORK_LEAST;
 use reference::stages::{Criterion, Data, Item, Pair, Stage};
 use reference::tree::{Root, Tree, ARRAY_LIMIT, DEPTH_LIMIT};
@@ -17,11 +18,14 @@ use reference::tree::{Root, Tree, ARRAY_LIMIT, DEPTH_LIMIT};
 /// A case, and what its last stage is.
 pub struct Worst {
     pub kind: &'static str,
-    pub case: Case,
+    pub case: Lending,
 }
 
-/// The kind of the cases that are refused.
-pub const REFUSED: &str = "refused, far past a limit";
+/// The kinds of the cases that are refused.
+#[cfg(test)]
+pub const REFUSED: [&str; 2] = [FAR, NOT_SUCH];
+const FAR: &str = "refused, far past a limit";
+const NOT_SUCH: &str = "not one such group alone";
 
 type Kinds = Vec<(&'static str, Stage)>;
 
@@ -40,14 +44,42 @@ pub fn cases(contents: &Contents) -> Vec<Worst> {
         }
     }
     all.extend(refused());
+    all.extend(regroups(contents));
+    all.extend(no_regroups(contents));
     all
 }
 
-fn case(stages: &[Stage], tree: &Tree, joined: &Tree) -> Case {
+fn case(stages: &[Stage], tree: &Tree, joined: &Tree) -> Lending {
     let query = encode_query(stages).expect("a query of up to 4,096 bytes has a byte form");
     let array = |tree: &Tree| encode_array(std::slice::from_ref(tree)).expect("so has an array");
-    let (input, joined) = (array(tree), array(joined));
-    Case { query, input, joined, work_length: WORK_LEAST, result_length: ARRAY_LIMIT }
+    let read = [query, array(tree), array(joined)];
+    Lending { call: Call::Run, read, work_length: WORK_LEAST, result_length: ARRAY_LIMIT }
+}
+
+/// What a regrouping refuses after it has checked how deep it goes: each last
+/// stage alone, and what is far past a limit.
+fn no_regroups(contents: &Contents) -> Vec<Worst> {
+    let tree = chain(contents, DEPTH_LIMIT);
+    let alone = last_stages(contents).into_iter().map(|(_, stage)| (NOT_SUCH, case(&[stage], &tree, &tree)));
+    let far = refused().into_iter().map(|worst| (worst.kind, worst.case));
+    alone.chain(far).map(|(kind, case)| Worst { kind, case: case.to(Call::Regroup) }).collect()
+}
+
+/// Regroupings by the first labels, of trees that have them all, each a deep
+/// one under the first.
+fn regroups(contents: &Contents) -> Vec<Worst> {
+    let labels = (AGGREGATES_LIMIT + GROUPING_LIMIT) as u8;
+    let integer = vec![Tree::bare(Root::Integer(contents.integer))];
+    let all =
+        (2..=labels).fold(chain(contents, DEPTH_LIMIT), |tree, label| tree.with(label, integer.clone()));
+    let pair = |label: u8| Pair { source: long(), destination: vec![label] };
+    let of = |aggregates: usize, grouping: usize| {
+        let mut pairs = (1..).map(pair);
+        let mut take = |number| pairs.by_ref().take(number).collect();
+        let stage = Stage::Group { aggregates: take(aggregates), grouping: take(grouping) };
+        Worst { kind: "regrouping", case: case(&[stage], &all, &all).to(Call::Regroup) }
+    };
+    vec![of(0, 0), of(1, 0), of(0, 1), of(1, 1), of(0, GROUPING_LIMIT), of(AGGREGATES_LIMIT, GROUPING_LIMIT)]
 }
 
 /// Cases that nest as deep as an area is long.
@@ -65,7 +97,7 @@ fn refused() -> Vec<Worst> {
         case(&[], &deep_tree(1_200), &void),
         case(&[], &void, &deep_tree(1_200)),
     ]
-    .map(|case| Worst { kind: REFUSED, case })
+    .map(|case| Worst { kind: FAR, case })
     .into()
 }
 

@@ -57,6 +57,66 @@ impl<'a> Engine<'a> {
         result.truncate(length);
         Ok(Array::decode(&result)?)
     }
+
+    /// Groups two arrays again as one: the trees of the first and then those
+    /// of the second, by a query that is one group alone, each destination of
+    /// which, now also the source, is a single label that no other has. It
+    /// gives the length of the result, which then stands at the start of the
+    /// result area; the bytes behind it are as they were.
+    ///
+    /// Of the results of two trays it makes that of both; see
+    /// [`Trays`](crate::Trays), which does it for a day. The arrays may be any.
+    ///
+    /// The refusals are those of a run, in another order where they differ:
+    /// [`Refusal::QueryMalformed`] is also a query that is not one such group
+    /// alone, [`Refusal::InputLong`] and [`Refusal::InputMalformed`] are of the
+    /// first array and then of the second, none is of a joined array, and
+    /// [`Refusal::GroupLong`], of the two joined, goes before
+    /// [`Refusal::TreeLarge`]. [`Refusal::regroup_words`] has the words.
+    ///
+    /// ```
+    /// use tquery::{limits, Array, Engine, Pair, Path, Query};
+    ///
+    /// # fn main() -> Result<(), Box<dyn std::error::Error>> {
+    /// let (job, lens) = (Path::new([1])?, Path::new([2])?);
+    /// let group = Query::new().group([Pair::same(job)], [Pair::same(lens)]).encode()?;
+    /// let array = |text: &str| text.parse::<Array>().map(|array| array.encode());
+    /// let first = array("[v{1:[4711], 2:[16]}]")??;
+    /// let second = array("[v{1:[4712], 2:[15]}, v{1:[4713], 2:[16]}]")??;
+    ///
+    /// let (mut work, mut result) = (vec![0; limits::WORK], vec![0; limits::ARRAY]);
+    /// let length = Engine::new(&mut work).regroup(&group, &first, &second, &mut result)?;
+    /// let list = Array::decode(&result[..length])?;
+    /// assert_eq!(list.to_string(), "[v{1:[4711, 4713], 2:[16]}, v{1:[4712], 2:[15]}]");
+    /// # Ok(())
+    /// # }
+    /// ```
+    pub fn regroup(
+        &mut self,
+        query: &[u8],
+        first: &[u8],
+        second: &[u8],
+        result: &mut [u8],
+    ) -> Result<usize, Refusal> {
+        length_of(ffi::regroup(query, first, second, self.work, result))
+    }
+
+    /// Groups the trees of two arrays again as one, as [`Engine::regroup`]
+    /// does, and gives trees. It takes its areas from the heap.
+    pub fn regroup_trees(
+        &mut self,
+        query: &Query,
+        first: &Array,
+        second: &Array,
+    ) -> Result<Array, Error> {
+        let (query, first, second) = (query.encode()?, first.encode()?, second.encode()?);
+        let mut result = vec![0; limits::ARRAY];
+        let length = self
+            .regroup(&query, &first, &second, &mut result)
+            .map_err(Error::Regroup)?;
+        result.truncate(length);
+        Ok(Array::decode(&result)?)
+    }
 }
 
 /// Checks that bytes are the byte form of an array within the limits, by the

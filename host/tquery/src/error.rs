@@ -243,6 +243,8 @@ pub enum Error {
     Build(BuildError),
     /// The engine refused the run.
     Refused(Refusal),
+    /// The engine refused a regrouping, some causes of which are others.
+    Regroup(Refusal),
     /// The result is not the byte form of an array. The engine's promise rules this out.
     Decode(DecodeError),
 }
@@ -252,6 +254,9 @@ impl fmt::Display for Error {
         match self {
             Error::Build(error) => error.fmt(out),
             Error::Refused(error) => error.fmt(out),
+            Error::Regroup(error) => {
+                write!(out, "refused {}: {}", error.number(), error.regroup_words())
+            }
             Error::Decode(error) => error.fmt(out),
         }
     }

@@ -1,4 +1,4 @@
-//! The engine's three C calls, and the only unsafe code of this crate.
+//! The engine's four C calls, and the only unsafe code of this crate.
 //!
 //! Rust's references already say what `include/tquery.h` asks of a caller: a
 //! slice is a pointer that is not null and the length of what it points to,
@@ -14,6 +14,19 @@ extern "C" {
         input_length: usize,
         joined: *const u8,
         joined_length: usize,
+        work: *mut u8,
+        work_length: usize,
+        result: *mut u8,
+        result_length: usize,
+    ) -> u64;
+
+    fn tquery_regroup(
+        query: *const u8,
+        query_length: usize,
+        first: *const u8,
+        first_length: usize,
+        second: *const u8,
+        second_length: usize,
         work: *mut u8,
         work_length: usize,
         result: *mut u8,
@@ -39,6 +52,25 @@ pub fn run(query: &[u8], input: &[u8], joined: &[u8], work: &mut [u8], result: &
             input.len(),
             joined.as_ptr(),
             joined.len(),
+            work.as_mut_ptr(),
+            work.len(),
+            result.as_mut_ptr(),
+            result.len(),
+        )
+    }
+}
+
+/// Groups two arrays again as one; the answer is the number times 2³² plus the length.
+pub fn regroup(query: &[u8], first: &[u8], second: &[u8], work: &mut [u8], result: &mut [u8]) -> u64 {
+    // SAFETY: as for `run`, whose areas these are but for their names.
+    unsafe {
+        tquery_regroup(
+            query.as_ptr(),
+            query.len(),
+            first.as_ptr(),
+            first.len(),
+            second.as_ptr(),
+            second.len(),
             work.as_mut_ptr(),
             work.len(),
             result.as_mut_ptr(),

@@ -17,6 +17,8 @@
 //!   form is a [`BuildError`], which says why.
 //! - [`Tree`], [`Root`] and [`Array`] are the data, with their byte form both
 //!   ways and document 01's notation both ways: `v{1:[5, 6], 2:[]}`.
+//! - [`Trays`] makes one list of a day whose records come in trays, each an
+//!   array, and are too many for one; [`Engine::regroup`] is the call for it.
 //! - [`Refusal`] has the ten causes, with document 01's numbers and words.
 //!
 //! Nothing here panics, whatever it is given. What is proved is the engine;
@@ -83,6 +85,7 @@ mod path;
 mod query;
 mod refusal;
 mod tags;
+mod trays;
 mod tree;
 
 /// The README's example, tested with the others.
@@ -95,4 +98,5 @@ pub use error::{BuildError, DecodeCause, DecodeError, Error, ParseCause, ParseEr
 pub use path::Path;
 pub use query::{Criterion, Data, Item, Pair, Query, Stage};
 pub use refusal::Refusal;
+pub use trays::{TrayCause, TrayError, Trays, Unfit};
 pub use tree::{Array, Root, Text, Tree};

@@ -5,8 +5,9 @@ use std::fmt;
 
 /// Why the engine refused a call: the ten causes of document 01's table.
 ///
-/// They are tested in the order of their numbers. The words of `Display` are
-/// the table's.
+/// A run tests them in the order of their numbers. The words of `Display` are
+/// the table's. A regrouping has other causes for some of the numbers, which
+/// [`Refusal::regroup_words`] says.
 #[derive(Clone, Copy, Debug, PartialEq, Eq, Hash)]
 #[non_exhaustive]
 pub enum Refusal {
@@ -14,12 +15,15 @@ pub enum Refusal {
     WorkShort,
     /// 2: the query has over 4,096 bytes. The result area is as it was.
     QueryLong,
-    /// 3: the query is not the byte form of any query. The result area is as it was.
+    /// 3: the query is not the byte form of any query; or, of a regrouping, it
+    /// is not one group alone whose destinations are single, distinct labels.
+    /// The result area is as it was.
     QueryMalformed,
-    /// 4: the input has over 16,384 bytes. The result area is as it was.
+    /// 4: the input, or an array that is regrouped, has over 16,384 bytes. The
+    /// result area is as it was.
     InputLong,
-    /// 5: the input is not the byte form of any array, or a tree in it is too
-    /// large. The result area is as it was.
+    /// 5: the input, or an array that is regrouped, is not the byte form of any
+    /// array, or a tree in it is too large. The result area is as it was.
     InputMalformed,
     /// 6: the joined array has over 16,384 bytes. The result area is as it was.
     JoinedLong,
@@ -28,7 +32,8 @@ pub enum Refusal {
     JoinedMalformed,
     /// 8: a tree passed 2,048 bytes or depth 16 in a stretch. The result area is all zero.
     TreeLarge,
-    /// 9: an array that enters a group has over 16,384 bytes. The result area is all zero.
+    /// 9: an array that enters a group, or two arrays that are regrouped, joined,
+    /// have over 16,384 bytes. The result area is all zero.
     GroupLong,
     /// 10: the last array has over 16,384 bytes, or more than the result area.
     /// The result area is all zero.
@@ -70,18 +75,9 @@ impl Refusal {
         }
     }
 
-    /// The refusal of a number other than 0.
-    fn from_number(number: u32) -> Refusal {
-        Refusal::ALL
-            .into_iter()
-            .find(|refusal| refusal.number() == number)
-            .unwrap_or(Refusal::Unlisted(number))
-    }
-}
-
-impl fmt::Display for Refusal {
-    fn fmt(&self, out: &mut fmt::Formatter<'_>) -> fmt::Result {
-        let words = match self {
+    /// The cause in words, as the table has it, without the number.
+    pub fn words(self) -> &'static str {
+        match self {
             Refusal::WorkShort => "work area under 65,536 bytes",
             Refusal::QueryLong => "query over 4,096 bytes",
             Refusal::QueryMalformed => "query malformed",
@@ -93,8 +89,43 @@ impl fmt::Display for Refusal {
             Refusal::GroupLong => "array entering a group over 16,384 bytes",
             Refusal::ResultLong => "final array over 16,384 bytes or over the result area",
             Refusal::Unlisted(_) => "a cause that this crate does not know",
-        };
-        write!(out, "refused {}: {words}", self.number())
+        }
+    }
+
+    /// The cause in words where [`Engine::regroup`](crate::Engine::regroup) refused.
+    ///
+    /// ```
+    /// use tquery::Refusal;
+    ///
+    /// let words = "the two arrays joined over 16,384 bytes";
+    /// assert_eq!(Refusal::GroupLong.regroup_words(), words);
+    /// assert_eq!(Refusal::QueryLong.regroup_words(), Refusal::QueryLong.words());
+    /// ```
+    pub fn regroup_words(self) -> &'static str {
+        match self {
+            Refusal::QueryMalformed => {
+                "query malformed, or not one group alone with single, distinct destinations"
+            }
+            Refusal::InputLong => "first or second array over 16,384 bytes",
+            Refusal::InputMalformed => "first or second array malformed, tree limits included",
+            Refusal::TreeLarge => "tree too large in the regrouping",
+            Refusal::GroupLong => "the two arrays joined over 16,384 bytes",
+            other => other.words(),
+        }
+    }
+
+    /// The refusal of a number other than 0.
+    fn from_number(number: u32) -> Refusal {
+        Refusal::ALL
+            .into_iter()
+            .find(|refusal| refusal.number() == number)
+            .unwrap_or(Refusal::Unlisted(number))
+    }
+}
+
+impl fmt::Display for Refusal {
+    fn fmt(&self, out: &mut fmt::Formatter<'_>) -> fmt::Result {
+        write!(out, "refused {}: {}", self.number(), self.words())
     }
 }
 
