@@ -108,8 +108,8 @@
  * not proved. The most that was seen in cases made to go deep and in random
  * ones, with a return address and four arguments on the stack counted in:
  *
- *     tquery_run          8,944 bytes
- *     tquery_regroup      8,944 bytes
+ *     tquery_run          8,720 bytes
+ *     tquery_regroup      3,464 bytes
  *     tquery_check_query  3,048 bytes
  *     tquery_check_array  1,400 bytes
  *

@@ -16,7 +16,7 @@ use Rattle.format.specs.declared.labels.Found.the-variants.{Part, Missing}
 use Rattle.spec_trees.specs.Tree.{void, boolean, integer, text, Tree, node, Labels, list, root}
 use Rattle.spec_trees.specs.Bytes.{fieldBytes, bytes, big, pattern, rootF, treeF, treeBytes}
 use Rattle.spec_trees.specs.NumberLaws.{length-big}
-use Rattle.areas.specs.Area.{Is, Fitted, Wrote, fieldEnd, IsAt, span}
+use Rattle.areas.specs.Area.{Is, Fitted, Wrote, fieldEnd, span}
 use Rattle.areas.specs.declared.span.Span.{Span}
 use Rattle.areas.specs.AreaLaws.{fitted, failed, fitted-is, fitted-keep, wrote-keep, is-part, is-right, is-keep, is-tag, is-copied, take-less, drop-more, is-left}
 use Rattle.spec_trees.specs.Lists.{All}

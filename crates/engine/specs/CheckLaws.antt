@@ -1,5 +1,5 @@
 -- Laws of the tests: the code's answer, and what the plain answer comes to by it.
-use mathlib.Core.Path.{_≡_, refl, sym, ap, subst, _∙_}
+use mathlib.Core.Path.{_≡_, refl, sym, subst}
 use mathlib.Core.List.{List}
 use mathlib.Core.Bool.{Bool, true, false, cond}
 use Prim.Native.Nat.{ℕ, _≤_, _<_}
@@ -12,7 +12,6 @@ use Rattle.spec_trees.specs.OptionLaws.{leb-yes, leb-no}
 use Rattle.spec_trees.specs.Tree.{Tree}
 use Rattle.spec_trees.specs.Readers.{Tested, accepted, overlong, malformed}
 use Rattle.spec_trees.specs.Decode.{readArray}
-use Rattle.format.specs.declared.check.Check.{Check}
 use Rattle.format.specs.Check.{checkOf}
 use Rattle.spec_queries.specs.Query.{Stage}
 use Rattle.spec_queries.specs.Decode.{readQuery}

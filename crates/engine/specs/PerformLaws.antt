@@ -1,26 +1,22 @@
 -- The run answers as the plain run: a call that passed its tests by its stages, another by its refusal.
-use mathlib.Core.Path.{_≡_, refl, sym, ap, subst, _∙_}
+use mathlib.Core.Path.{_≡_, sym, ap, subst, _∙_}
 use mathlib.Core.List.{List, _++_}
-use mathlib.Core.Bool.{Bool, true, false, cond, _&&_}
+use mathlib.Core.Bool.{cond}
 use Prim.Native.Nat.{ℕ, _≤_}
 use native.Mathlib.Omega.{arith}
 use lib.ListN.{length, take, drop, replicate, length-append, length-drop}
 use lib.Seq.{length-take-le}
 use lib.Dec.{leb}
-use borrow.Author.Tests.{leb-true, leb-false}
 use Rattle.spec_trees.specs.Limits.{workMin}
 use Rattle.spec_trees.specs.OptionLaws.{leb-yes}
-use Rattle.spec_trees.specs.Size.{arraySize}
-use Rattle.spec_trees.specs.Bytes.{arrayBytes}
 use Rattle.spec_trees.specs.Within.{AllBytes}
 use Rattle.spec_trees.specs.ArrayLaws.{array-only, read-array}
 use Rattle.spec_queries.specs.QueryLaws.{query-only, read-query}
-use Rattle.spec_stages.specs.Stages.{State, going, large, long, stages}
+use Rattle.spec_stages.specs.Stages.{going, stages}
 use Rattle.stream.specs.Map.{endPart}
 use Rattle.stretches.specs.declared.ended.Ended.{Ended}
 use Rattle.stretches.specs.Ended.{Forms, Runs}
 use Rattle.spec_run.specs.declared.answer.Refusal.{Refusal}
-use Rattle.spec_run.specs.declared.answer.Refusal.the-variants.{ResultLong}
 use Rattle.spec_run.specs.declared.answer.Answer.{Answer}
 use Rattle.spec_run.specs.declared.answer.Answer.the-variants.{Refused}
 use Rattle.engine.specs.declared.check.CallCheck.the-variants as check-is

@@ -1,5 +1,5 @@
 -- The regrouping call answers as the plain regrouping: one that passed its tests by its group, another by its refusal.
-use mathlib.Core.Path.{_≡_, sym, ap, subst, _∙_}
+use mathlib.Core.Path.{_≡_, sym, subst}
 use mathlib.Core.List.{List, [], _∷_, _++_}
 use mathlib.Core.Bool.{cond}
 use Prim.Native.Nat.{ℕ, _≤_}
@@ -12,13 +12,11 @@ use Rattle.spec_trees.specs.ArrayLaws.{array-only, read-array}
 use Rattle.spec_queries.specs.Again.{regrouped}
 use Rattle.spec_stages.specs.Stages.{going, stages}
 use Rattle.queries.specs.declared.stage.GroupAt.{GroupAt}
-use Rattle.stream.specs.Map.{endPart}
 use Rattle.stretches.specs.declared.ended.Ended.{Ended}
 use Rattle.trays.specs.Regroup.{RegroupReady, Regroups}
 use Rattle.spec_run.specs.declared.answer.Refusal.{Refusal}
 use Rattle.spec_run.specs.declared.answer.Answer.{Answer}
 use Rattle.spec_run.specs.declared.answer.Answer.the-variants.{Refused}
-use Rattle.spec_run.specs.Run.{final}
 use Rattle.spec_run.specs.Regroup.{RegroupCall, regroupVerdict, plainRegroup}
 use Rattle.spec_run.specs.RegroupLaws.{reads-regroup}
 use Rattle.spec_run.specs.Answer.{numbered, lengthened, Regrouped, AnswersAs}

@@ -10,7 +10,7 @@ use Rattle.format.specs.declared.labels.Found.the-variants.{Part}
 use Rattle.spec_trees.specs.Options.{_>>=_}
 use Rattle.spec_trees.specs.Tree.{ε, _▹_}
 use Rattle.spec_trees.specs.Bytes.{bytes, treeFs, treeBytes}
-use Rattle.areas.specs.Area.{Is, IsAt, span}
+use Rattle.areas.specs.Area.{Is, span}
 use Rattle.areas.specs.declared.span.Span.{Span}
 use Rattle.format.specs.Stand.{ArrayIs, FoundIs}
 use Rattle.queries.specs.Steps.{stepCount, stepAt}

@@ -1,5 +1,5 @@
 -- The regrouping of an allowed group is an allowed query, and its pairs are short.
-use mathlib.Core.Path.{_≡_, refl, sym, ap, subst, _∙_}
+use mathlib.Core.Path.{_≡_, refl, ap, _∙_}
 use mathlib.Core.List.{List, [], _∷_, _++_, map, map-append}
 use mathlib.Core.Bool.{true, not}
 use Prim.Native.Nat.{ℕ, _+_, _*_, _≤_}
@@ -9,8 +9,8 @@ use Rattle.spec_trees.specs.Limits.{aggregatesMax, groupingMax}
 use Rattle.spec_trees.specs.Bytes.{fieldBytes, bytes}
 use Rattle.spec_trees.specs.Lists.{all, All}
 use Rattle.spec_trees.specs.OptionLaws.{both-true}
-use Rattle.spec_trees.specs.FieldLaws.{bytes-append, bytes-one, length-bytes}
-use Rattle.spec_queries.specs.Query.{Path, Pair, Stage}
+use Rattle.spec_trees.specs.FieldLaws.{bytes-append, length-bytes}
+use Rattle.spec_queries.specs.Query.{Path, Pair}
 use Rattle.spec_queries.specs.Bytes.{pathF, pairF, pairsF, stageF, queryF, queryBytes}
 use Rattle.spec_queries.specs.Rules.{OkPair, OkPairs, OkQ}
 use Rattle.spec_queries.specs.Again.{again, targets, leads, distinctLabels, distinctTargets, regrouped}

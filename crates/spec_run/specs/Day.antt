@@ -50,8 +50,9 @@ pub record RegroupedTwo (g : List ℕ) (ps qs rs : List Tree) : Type 0 where
   pub second-is : IsArray second qs
   pub result-is : decodeArray (take length left) ≡ some rs
 
--- the day's list, two by two in any bracketing: the result of a tray's run; or the regrouping of two lists of trays,
--- one behind the other
+-- the day's list, two by two in any bracketing: the empty list of no tray; the result of a tray's run; or the regrouping
+-- of two lists, the trays of the second behind those of the first
 pub data Day (q j g : List ℕ) : List Tray → List Tree → Type 0 where
+  empty : Day q j g [] []
   one : {k : Tray} → RanTray q j k → Day q j g (k ∷ []) (k .result)
   both : {js ks : List Tray} {ps qs rs : List Tree} → Day q j g js ps → Day q j g ks qs → RegroupedTwo g ps qs rs → Day q j g (js ++ ks) rs

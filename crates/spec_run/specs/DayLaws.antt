@@ -1,6 +1,6 @@
 -- The theorems on trays, of the answers of the calls: what stands in the result areas of accepted tray runs joins to
 -- what the definitions give for the joined trays, and grouped again it is the grouping of the whole.
-use mathlib.Core.Path.{_≡_, refl, sym, ap, ap₂, subst, _∙_}
+use mathlib.Core.Path.{_≡_, refl, sym, ap, ap₂, _∙_}
 use mathlib.Core.List.{List, [], _∷_, _++_}
 use mathlib.Core.Bool.{true}
 use mathlib.Core.Option.{some}
@@ -20,13 +20,13 @@ use Rattle.spec_queries.specs.Again.{distinctTargets, regrouped, regrouping}
 use Rattle.spec_queries.specs.QueryLaws.{read-query}
 use Rattle.spec_stages.specs.Stages.{going, stages}
 use Rattle.spec_stages.specs.Join.{GroupFree}
-use Rattle.spec_stages.specs.Trays.{Tray, trayOf, inputs, results, TrayRun, Grouped, Folded, alone, paired}
+use Rattle.spec_stages.specs.Trays.{Tray, trayOf, inputs, results, TrayRun, Grouped, Folded, nothing, alone, paired}
 use Rattle.spec_stages.specs.TrayLaws.{trays-join, run-grouped, grouped-same, runs-regroup, folded-regroup}
-use Rattle.spec_run.specs.Run.{call, resultBytes, plainRun}
-use Rattle.spec_run.specs.Regroup.{regroupCall, plainRegroup}
-use Rattle.spec_run.specs.Day.{IsQuery, IsArray, RanTray, RegroupedTwo, Day, one, both}
-use Rattle.spec_run.specs.RunLaws.{Gives, accepted-out, accepted-is, accepted-within, result-is}
-use Rattle.spec_run.specs.RegroupLaws.{RegroupGives, accepted-regroup, regroup-is, regroup-within}
+use Rattle.spec_run.specs.Run.{call, resultBytes}
+use Rattle.spec_run.specs.Regroup.{regroupCall}
+use Rattle.spec_run.specs.Day.{IsQuery, IsArray, RanTray, RegroupedTwo, Day, empty, one, both}
+use Rattle.spec_run.specs.RunLaws.{accepted-out, accepted-is, accepted-within, result-is}
+use Rattle.spec_run.specs.RegroupLaws.{accepted-regroup, regroup-is, regroup-within}
 
 -- what the result bytes are read as is what was written
 read-back : (b : List ℕ) (fs rs : List Tree) → b ≡ arrayBytes fs → Within fs → decodeArray b ≡ some rs → fs ≡ rs
@@ -84,6 +84,7 @@ module _ {q j : List ℕ} (ss : List Stage) {us : List Tree} (ag gs : List Pair)
   -- two by two, by the regrouping call with the group alone
   module _ {g : List ℕ} (ig : IsQuery g (group ag gs ∷ [])) where
     day-folds : {ks : List Tray} {rs : List Tree} → Day q j g ks rs → Folded [] (regrouped ag gs) ks rs × All (TrayRun us (ss ++ (group ag gs ∷ []))) ks
+    day-folds empty = (nothing, tt)
     day-folds (one {k = k} h) = (alone, (ran-tray iq ij k h, tt))
     day-folds (both {js = js} {ks = ks} {ps = ps} {qs = qs} {rs = rs} a b h) =
         let x = day-folds a in

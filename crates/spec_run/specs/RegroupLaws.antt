@@ -1,7 +1,7 @@
 -- The regrouping call: what its tests have read, what an accepted one gives, and that it answers as the regrouping run
 -- over the join.
 use mathlib.Core.Path.{_≡_, refl, sym, ap, subst, _∙_}
-use mathlib.Core.List.{List, [], _∷_, _++_, map}
+use mathlib.Core.List.{List, [], _∷_, _++_}
 use mathlib.Core.Option.{Option, none, some}
 use Prim.Native.Nat.{ℕ, _≤_, _<_}
 use native.Mathlib.Omega.{arith}
@@ -22,7 +22,7 @@ use Rattle.spec_queries.specs.Query.{Pair, Stage, group}
 use Rattle.spec_queries.specs.Bytes.{queryBytes}
 use Rattle.spec_queries.specs.Decode.{readQuery}
 use Rattle.spec_queries.specs.Rules.{OkS, OkQ}
-use Rattle.spec_queries.specs.Again.{again, regrouped, regrouping}
+use Rattle.spec_queries.specs.Again.{regrouped, regrouping}
 use Rattle.spec_queries.specs.AgainLaws.{regrouping-group, regrouping-alone}
 use Rattle.spec_queries.specs.RegroupingLaws.{regrouping-ok}
 use Rattle.spec_queries.specs.QueryLaws.{query-only, query-back, read-query}
@@ -31,7 +31,7 @@ use Rattle.spec_stages.specs.LeaveLaws.{group-long}
 use Rattle.spec_stages.specs.KeepLaws.{stages-allowed}
 use Rattle.spec_run.specs.declared.answer.Refusal.{Refusal}
 use Rattle.spec_run.specs.declared.answer.Refusal.the-variants.{WorkShort, QueryLong, QueryMalformed, InputLong, InputMalformed, GroupLong}
-use Rattle.spec_run.specs.Run.{call, Verdict, gives, refused, reading, final, verdict, outcomeOf, plainRun, resultBytes}
+use Rattle.spec_run.specs.Run.{call, Verdict, gives, refused, reading, final, outcomeOf, plainRun}
 use Rattle.spec_run.specs.Regroup.{RegroupCall, asking, regroupVerdictOf, regroupVerdict, plainRegroup}
 use Rattle.spec_run.specs.RunLaws.{reads-verdict, reading-out, cond-out, final-out, accepts-gives, Short, outcome-short, bytes-short}
 

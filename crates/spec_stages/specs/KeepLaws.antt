@@ -13,7 +13,7 @@ use lib.Signed.{mag}
 use lib.Dec.{T, eqb, leb, ltb, leb→le, ltb→lt, eqb→eq, nltb→le, eqb-refl}
 use Rattle.spec_trees.specs.Options.{_>>=_, maybe}
 use Rattle.spec_trees.specs.Lists.{filter, all, All, gather, each}
-use Rattle.spec_trees.specs.Limits.{treeMax, depthMax, arrayMax, labelMax, pathMax, divisorMax}
+use Rattle.spec_trees.specs.Limits.{treeMax, depthMax, arrayMax, labelMax, divisorMax}
 use Rattle.spec_trees.specs.Tree.{Root, void, boolean, integer, text, Tree, node, Trees, ε, _▹_, Labels, bare, label, list, trees, root, labels, bareVoid, isLabel, find, put}
 use Rattle.spec_trees.specs.Size.{size, depth, fits, arraySize}
 use Rattle.spec_trees.specs.Within.{OkR, Ok, OkA, OkL, Allowed, AllowedA}

@@ -13,12 +13,12 @@ use Rattle.spec_trees.specs.ListLaws.{All-every}
 use Rattle.spec_trees.specs.Tree.{Tree, bareVoid}
 use Rattle.spec_trees.specs.Size.{arraySize, fits}
 use Rattle.spec_trees.specs.Within.{Allowed, AllowedA}
-use Rattle.spec_queries.specs.Query.{Path, Route, Item, Pair, Stage, group}
+use Rattle.spec_queries.specs.Query.{Path, Route, Item, Pair, group}
 use Rattle.spec_stages.specs.Merge.{build}
 use Rattle.spec_stages.specs.Project.{item, projected}
 use Rattle.spec_stages.specs.Lookup.{looked}
 use Rattle.spec_stages.specs.Group.{Class, aggregated, identified, sourced, classTree, grouped}
-use Rattle.spec_stages.specs.Stages.{going, long, isGroup, performed, leaving, after, step, stages}
+use Rattle.spec_stages.specs.Stages.{going, long, isGroup, performed, leaving, after, step}
 use Rattle.spec_stages.specs.StageLaws.{fits-of, build-fits, void-fits}
 
 -- trees that fit leave as they are

@@ -4,17 +4,20 @@
 use mathlib.Core.Path.{_≡_, refl, sym, ap, ap₂, subst, _∙_}
 use mathlib.Core.List.{List, [], _∷_, _++_, append-nil}
 use mathlib.Core.Option.{some}
+use Prim.Native.Nat.{_^_}
+use lib.ListN.{length}
 use Rattle.spec_trees.specs.OptionLaws.{some-equal}
-use Rattle.spec_trees.specs.Lists.{All, gather}
+use Rattle.spec_trees.specs.Lists.{filter, All, gather, each}
 use Rattle.spec_trees.specs.ListLaws.{All-left, All-right, All-imply}
 use Rattle.spec_trees.specs.FilterLaws.{gather-append}
 use Rattle.spec_trees.specs.Tree.{Tree}
 use Rattle.spec_queries.specs.Query.{Pair, Stage, group}
 use Rattle.spec_queries.specs.Again.{regrouping}
 use Rattle.spec_queries.specs.AgainLaws.{regrouping-group}
+use Rattle.spec_stages.specs.Group.{having, classes, upto, grouped, classTree}
 use Rattle.spec_stages.specs.Stages.{performed, going, stages}
 use Rattle.spec_stages.specs.Join.{beside, inTurn, GroupFree}
-use Rattle.spec_stages.specs.Trays.{Tray, trayOf, inputs, results, TrayRun, GroupGives, Grouped, Folded, alone, paired}
+use Rattle.spec_stages.specs.Trays.{Tray, trayOf, inputs, results, TrayRun, GroupGives, Grouped, Folded, nothing, alone, paired}
 use Rattle.spec_stages.specs.JoinLaws.{stages-join, stages-each, stages-append}
 use Rattle.spec_stages.specs.GoingLaws.{step-accepted, stages-going}
 use Rattle.spec_stages.specs.RegroupLaws.{regroup-law}
@@ -49,6 +52,17 @@ module _ (us : List Tree) (ss : List Stage) (ag gs : List Pair) where
   grouped-same {ts} {rs} {qs} g h =
       let z : g .entering ≡ h .entering = cc (g .entering-is, h .entering-is) in
       some-equal rs qs (sym (g .result-is) ∙ ap (performed us (group ag gs)) z ∙ h .result-is)
+
+-- ---- no tray
+gather-nothing : {A B : Type 0} (xs : List A) → gather {A = A} {B = B} (λ x. []) xs ≡ []
+unfolding gather
+gather-nothing [] = refl
+gather-nothing (x ∷ xs) = gather-nothing xs
+
+-- no tree, no class
+group-nothing : (us : List Tree) (ag gs : List Pair) → performed us (group ag gs) [] ≡ some []
+unfolding performed grouped having filter classes each
+group-nothing us ag gs = ap (each (classTree ag gs)) (gather-nothing (upto (2 ^ length gs)))
 
 -- ---- the query ends in its only group, and s is that group's regrouping
 module _ (us : List Tree) (ss : List Stage) (ag gs : List Pair) (f : GroupFree ss) (s : Stage) (r : regrouping (group ag gs ∷ []) ≡ some s) where
@@ -103,7 +117,8 @@ module _ (us : List Tree) (ss : List Stage) (ag gs : List Pair) (f : GroupFree s
   -- so two by two in any bracketing, as one tray after another
   pub folded-regroup : (ws : List Tree) {ks : List Tray} {rs : List Tree} → Folded ws s ks rs → All (Grouped us ss ag gs) ks
       → Grouped us ss ag gs (trayOf (inputs ks) rs)
-  unfolding gather
+  unfolding gather inTurn
+  folded-regroup ws nothing h = record { entering = []; entering-is = stages-each us ss f []; result-is = group-nothing us ag gs }
   folded-regroup ws (alone {k = k}) h = subst (λ l. Grouped us ss ag gs (trayOf l (k .result))) (sym (append-nil (k .input))) (h .0)
   folded-regroup ws (paired {js = js} {ks = ks} {ps = ps} {qs = qs} {rs = rs} a b z) h =
       subst (λ l. Grouped us ss ag gs (trayOf l rs)) (sym (gather-append (λ k. k .input) js ks))

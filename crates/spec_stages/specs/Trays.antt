@@ -35,8 +35,9 @@ pub record Grouped (us : List Tree) (ss : List Stage) (ag gs : List Pair) (k : T
   pub entering-is : stages us ss (going (k .input)) ≡ going entering
   pub result-is : performed us (group ag gs) entering ≡ some (k .result)
 
--- The results of trays in order, folded two by two in any bracketing: that of one tray alone; or two folded results
--- joined and grouped again by s, in an accepted run
+-- The results of trays in order, folded two by two in any bracketing: of no tray the empty list; that of one tray alone;
+-- or two folded results joined and grouped again by s, in an accepted run
 pub data Folded (ws : List Tree) (s : Stage) : List Tray → List Tree → Type 0 where
+  nothing : Folded ws s [] []
   alone : {k : Tray} → Folded ws s (k ∷ []) (k .result)
   paired : {js ks : List Tray} {ps qs rs : List Tree} → Folded ws s js ps → Folded ws s ks qs → TrayRun ws (s ∷ []) (trayOf (ps ++ qs) rs) → Folded ws s (js ++ ks) rs

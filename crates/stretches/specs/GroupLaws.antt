@@ -21,7 +21,6 @@ use Rattle.spec_trees.specs.Size.{fits}
 use Rattle.spec_trees.specs.Bytes.{bytes, treeFs, treeBytes}
 use Rattle.spec_trees.specs.Within.{Ok, Allowed, AllowedA}
 use Rattle.areas.specs.Area.{Is, fieldEnd, span}
-use Rattle.areas.specs.declared.span.Span.{Span}
 use Rattle.areas.specs.AreaLaws.{is-keep, is-join}
 use Rattle.spec_queries.specs.Query.{Pair, Stage}
 use Rattle.spec_queries.specs.Bytes.{pairF}

@@ -1,7 +1,7 @@
 -- Number and length are recovered from an answer of the C interface, which fits 64 bits.
 use mathlib.Core.Path.{_≡_, ap, _∙_}
 use mathlib.Core.List.{List}
-use Prim.Native.Nat.{ℕ, _+_, _*_, _/_, _%_, _≤_, _<_}
+use Prim.Native.Nat.{ℕ, _+_, _*_, _≤_}
 use native.Mathlib.Omega.{arith}
 use Rattle.spec_trees.specs.Limits.{arrayMax}
 use Rattle.spec_trees.specs.Readers.{Tested}

@@ -8,12 +8,10 @@ use native.Mathlib.Omega.{arith}
 use lib.ListN.{length, take, drop, getD, set, length-append, length-drop, length-set}
 use lib.Seq.{length-take-le, take-all, take-add, take-suc, take-set-le, take-suc-set, drop-set-lt, drop-set-add}
 use Rattle.spec_trees.specs.Bytes.{fieldBytes, bytes}
-use Rattle.spec_trees.specs.FieldLaws.{length-bytes}
-use Rattle.spec_queries.specs.Query.{Path, Pair}
+use Rattle.spec_queries.specs.Query.{Pair}
 use Rattle.spec_queries.specs.Bytes.{pathF, pairF}
-use Rattle.spec_queries.specs.Decode.{pairOf}
 use Rattle.spec_queries.specs.Again.{again}
-use Rattle.areas.specs.Area.{Is, IsAt, Wrote, headBytes, fieldEnd, span}
+use Rattle.areas.specs.Area.{Is, Wrote, headBytes, fieldEnd, span}
 use Rattle.areas.specs.AreaLaws.{is-part, is-keep, fitted, written, wrote-keep, wrote-none, wrote-seq, finish-at, length-field}
 use Rattle.areas.specs.declared.area.Out.the-variants.{At}
 use Rattle.areas.specs.declared.span.Span.{Span}
@@ -23,7 +21,7 @@ use Rattle.queries.specs.PartLaws.{list-parts, list-none}
 use Rattle.queries.specs.StepLaws.{path-room}
 use Rattle.queries.specs.declared.item.PairAt.{PairAt}
 use Rattle.queries.specs.declared.stage.GroupAt.{GroupAt}
-use Rattle.trays.specs.Again.{WroteTwice, PairRoom, PairWritten, PairsRoom, PairsWritten, GroupRoom, GroupAgain, GroupWritten}
+use Rattle.trays.specs.Again.{WroteTwice, PairRoom, PairWritten, PairsRoom, PairsWritten, GroupRoom, GroupWritten}
 use Rattle.trays.specs.TrayGroupLaws.{pair-target}
 
 -- ---- a field twice: the first i bytes of both copies are written

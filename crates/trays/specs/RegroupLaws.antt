@@ -1,43 +1,39 @@
 -- The join of two arrays, grouped again, comes to what the regrouping gives of the joined trees.
-use mathlib.Core.Path.{_≡_, refl, sym, ap, ap₂, subst, _∙_}
-use mathlib.Core.List.{List, [], _∷_, _++_, map}
-use mathlib.Core.Bool.{true}
-use Prim.Native.Nat.{ℕ, _+_, _≤_}
+use mathlib.Core.Path.{_≡_, sym, ap, ap₂, subst, _∙_}
+use mathlib.Core.List.{List, [], _++_, map}
+use Prim.Native.Nat.{ℕ, _≤_}
 use native.Mathlib.Omega.{arith}
 use lib.ListN.{length, drop}
 use lib.Seq.{take-all}
-use Rattle.spec_trees.specs.Limits.{arrayMax}
 use Rattle.spec_trees.specs.ListLaws.{All-append}
 use Rattle.spec_trees.specs.Tree.{Tree}
-use Rattle.spec_trees.specs.Size.{arraySize}
 use Rattle.spec_trees.specs.Bytes.{bytes, treeFs, arrayBytes}
-use Rattle.spec_trees.specs.Within.{Allowed, AllowedA, Within}
-use Rattle.spec_queries.specs.Query.{Pair, Stage}
-use Rattle.spec_queries.specs.Again.{again, distinctTargets, regrouped}
+use Rattle.spec_trees.specs.Within.{Within}
+use Rattle.spec_queries.specs.Query.{Pair}
+use Rattle.spec_queries.specs.Again.{again}
 use Rattle.spec_queries.specs.RegroupingLaws.{ok-again, group-short}
-use Rattle.spec_stages.specs.Group.{grouped}
-use Rattle.spec_stages.specs.Stages.{State, going, long, stages}
+use Rattle.spec_stages.specs.Stages.{stages}
 use Rattle.spec_stages.specs.LeaveLaws.{group-step, group-long}
 use Rattle.spec_stages.specs.Stretch.{before}
 use Rattle.areas.specs.Area.{Is, Wrote, span}
 use Rattle.areas.specs.AreaLaws.{written}
 use Rattle.areas.specs.declared.area.Out.{Out}
 use Rattle.areas.specs.declared.area.Out.the-variants.{At, TooLarge}
-use Rattle.queries.specs.Places.{arrayTrees, stagesBytes}
+use Rattle.queries.specs.Places.{arrayTrees}
 use Rattle.queries.specs.TreesLaws.{array-reads}
 use Rattle.queries.specs.declared.stage.GroupAt.{GroupAt}
 use Rattle.paths.specs.ComparedLaws.{is-none, trees-append}
-use Rattle.stream.specs.Map.{treesMax, endPart}
+use Rattle.stream.specs.Map.{treesMax}
 use Rattle.stream.specs.Feed.{Planned}
 use Rattle.stream.specs.declared.collector.Collector.{Collector}
 use Rattle.stretches.specs.declared.ended.Ended.{Ended}
 use Rattle.stretches.specs.declared.next.StretchAt.{StretchAt}
 use Rattle.stretches.specs.Ended.{EndedIs}
 use Rattle.stretches.specs.Next.{stretchAt}
-use Rattle.stretches.specs.Stretch.{Pairs, Gathered, GroupReady, GroupPost, Shows, through}
+use Rattle.stretches.specs.Stretch.{Pairs, Gathered, GroupReady, GroupPost, through}
 use Rattle.stretches.specs.Later.{LastPost}
 use Rattle.stretches.specs.LaterLaws.{size-is, ends-long}
-use Rattle.trays.specs.Again.{GroupRoom, GroupAgain, GroupWritten}
+use Rattle.trays.specs.Again.{GroupRoom, GroupWritten}
 use Rattle.trays.specs.Regroup.{RegroupReady, Regroups}
 
 -- a group behind which no stage stands

@@ -5,7 +5,6 @@ use mathlib.Core.List.{List, [], _∷_, _++_}
 use mathlib.Core.Bool.{Bool, true, false, not, _&&_}
 use mathlib.Core.Option.{none}
 use Prim.Native.Nat.{ℕ}
-use Rattle.spec_trees.specs.Limits.{aggregatesMax, groupingMax}
 use Rattle.spec_trees.specs.Lists.{all, All}
 use Rattle.spec_queries.specs.Query.{Path, Pair, Stage, group}
 use Rattle.spec_queries.specs.Bytes.{queryBytes}

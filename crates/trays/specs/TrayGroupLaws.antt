@@ -1,21 +1,20 @@
 -- Laws of the search for a tray group: destination by destination, and the query that is one such group alone.
-use mathlib.Core.Path.{_≡_, refl, sym, ap, ap₂, subst, _∙_}
+use mathlib.Core.Path.{_≡_, refl, sym, ap, subst, _∙_}
 use mathlib.Core.List.{List, [], _∷_, _++_}
 use mathlib.Core.Bool.{Bool, true, false, not, _&&_}
-use mathlib.Core.Option.{Option, none, some}
-use Prim.Native.Nat.{ℕ, _+_, _≤_, _<_}
+use mathlib.Core.Option.{none, some}
+use Prim.Native.Nat.{ℕ, _+_, _≤_}
 use native.Mathlib.Omega.{arith}
 use lib.ListN.{length, getD}
 use lib.Dec.{eqb}
 use borrow.Author.Tests.{eq-eqb, ne-eqb}
 use Rattle.spec_trees.specs.Options.{only}
-use Rattle.spec_trees.specs.Limits.{aggregatesMax, groupingMax}
 use Rattle.spec_trees.specs.Lists.{all, All}
 use Rattle.spec_trees.specs.Bytes.{bytes}
 use Rattle.spec_queries.specs.Query.{Path, Pair, Stage, match, unwind, project, group, lookup}
 use Rattle.spec_queries.specs.Bytes.{pairF, stageF, queryBytes}
 use Rattle.spec_queries.specs.Rules.{OkP⁺, OkPair, OkS, OkQ}
-use Rattle.spec_queries.specs.Again.{targets, leads, distinctTargets, regrouped, regrouping}
+use Rattle.spec_queries.specs.Again.{leads, regrouped, regrouping}
 use Rattle.areas.specs.Area.{Is, IsAt, fieldEnd, span}
 use Rattle.areas.specs.declared.span.Span.{Span}
 use Rattle.format.specs.Stand.{Holds}
@@ -32,7 +31,7 @@ use Rattle.stretches.specs.Next.{stretchAt, groupOf}
 use Rattle.stretches.specs.Stretch.{Pairs}
 use Rattle.paths.specs.ComparedLaws.{is-none}
 use Rattle.trays.specs.declared.tray_group.TrayGroup.{TrayGroup}
-use Rattle.trays.specs.TrayGroup.{noneLeads, alone, apart, NoneLeadsIs, TargetsReady, AloneIs, ApartIs, GroupStands, DistinctIs, QueryForm, IsTrayGroup, TrayGroupOf, TrayGroupIs}
+use Rattle.trays.specs.TrayGroup.{noneLeads, alone, apart, NoneLeadsIs, AloneIs, ApartIs, GroupStands, DistinctIs, QueryForm, IsTrayGroup, TrayGroupIs}
 use Rattle.trays.specs.TargetLaws.{leads-both, distinct-parts}
 
 -- ---- the destination of a pair
