@@ -13,9 +13,9 @@ use Rattle.spec_queries.specs.Rules.{OkQ}
 use Rattle.spec_queries.specs.Again.{distinctTargets, regrouped}
 use Rattle.spec_stages.specs.Stages.{going, stages}
 use Rattle.queries.specs.declared.stage.GroupAt.{GroupAt}
-use Rattle.stretches.specs.Stretch.{Pairs}
 use Rattle.spec_run.specs.declared.answer.Answer.{Answer}
 use Rattle.spec_run.specs.Run.{final}
+use Rattle.queries.specs.Places.{Pairs}
 use Rattle.spec_run.specs.Answer.{AnswersAs}
 
 -- whatever query and arrays these bytes are, the verdict is the plain run's

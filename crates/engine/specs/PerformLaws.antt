@@ -19,14 +19,14 @@ use Rattle.stretches.specs.Ended.{Forms, Runs}
 use Rattle.spec_run.specs.declared.answer.Refusal.{Refusal}
 use Rattle.spec_run.specs.declared.answer.Answer.{Answer}
 use Rattle.spec_run.specs.declared.answer.Answer.the-variants.{Refused}
-use Rattle.engine.specs.declared.check.CallCheck.the-variants as check-is
+use Rattle.checks.specs.declared.check.CallCheck.the-variants as check-is
 use Rattle.spec_run.specs.Run.{Call, Verdict, verdict, numberIn, lengthIn, resultAfter, zeros, workAfter, outcomeOf, plainRun}
 use Rattle.spec_run.specs.RunLaws.{reads-verdict}
 use Rattle.spec_run.specs.Answer.{numbered, lengthened, Answered, AnswersAs}
 use Rattle.spec_run.specs.AnswerLaws.{AnsweredBy, by-run}
-use Rattle.engine.specs.Check.{callCheck}
-use Rattle.engine.specs.RegroupCheck.{Early}
-use Rattle.engine.specs.CheckLaws.{passed-reads, refused-early}
+use Rattle.checks.specs.Check.{callCheck}
+use Rattle.checks.specs.RegroupCheck.{Early}
+use Rattle.checks.specs.CheckLaws.{passed-reads, refused-early}
 use Rattle.engine.specs.Finish.{FinishReady, Finishes}
 use Rattle.engine.specs.Perform.{Performs}
 

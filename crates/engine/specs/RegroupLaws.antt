@@ -13,7 +13,7 @@ use Rattle.spec_queries.specs.Again.{regrouped}
 use Rattle.spec_stages.specs.Stages.{going, stages}
 use Rattle.queries.specs.declared.stage.GroupAt.{GroupAt}
 use Rattle.stretches.specs.declared.ended.Ended.{Ended}
-use Rattle.trays.specs.Regroup.{RegroupReady, Regroups}
+use Rattle.regrouping.specs.JoinedGroup.{RegroupReady, Regroups}
 use Rattle.spec_run.specs.declared.answer.Refusal.{Refusal}
 use Rattle.spec_run.specs.declared.answer.Answer.{Answer}
 use Rattle.spec_run.specs.declared.answer.Answer.the-variants.{Refused}
@@ -21,9 +21,9 @@ use Rattle.spec_run.specs.Regroup.{RegroupCall, regroupVerdict, plainRegroup}
 use Rattle.spec_run.specs.RegroupLaws.{reads-regroup}
 use Rattle.spec_run.specs.Answer.{numbered, lengthened, Regrouped, AnswersAs}
 use Rattle.spec_run.specs.AnswerLaws.{by-regroup}
-use Rattle.engine.specs.declared.check.RegroupCheck.{RegroupCheck}
-use Rattle.engine.specs.RegroupCheck.{RegroupChecked}
-use Rattle.engine.specs.RegroupCheckLaws.{such-is}
+use Rattle.checks.specs.declared.check.RegroupCheck.{RegroupCheck}
+use Rattle.checks.specs.RegroupCheck.{RegroupChecked}
+use Rattle.checks.specs.RegroupCheckLaws.{such-is}
 use Rattle.engine.specs.Finish.{FinishReady, Finishes}
 use Rattle.engine.specs.Perform.{PerformsAgain}
 use Rattle.engine.specs.PerformLaws.{ended-answered, early-answered}

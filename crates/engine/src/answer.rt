@@ -2,7 +2,7 @@
 ghost use mathlib.Core.Path.{_≡_};
 ghost use Rattle.spec_run.specs.Refusal.{numberOf};
 ghost use Rattle.spec_run.specs.Answer.{numbered, lengthened};
-ghost use Rattle.engine.specs.Check.{checkedAs};
+ghost use Rattle.checks.specs.Check.{checkedAs};
 use format::check::Check;
 use spec_run::answer::Answer;
 use spec_run::answer::Refusal;

@@ -2,17 +2,17 @@
 //! are answered.
 ghost use Rattle.spec_run.specs.Regroup.{regroupCall};
 ghost use Rattle.spec_run.specs.Answer.{numbered, lengthened, Regrouped};
-ghost use Rattle.trays.specs.Regroup.{RegroupReady};
+ghost use Rattle.regrouping.specs.JoinedGroup.{RegroupReady};
 ghost use Rattle.engine.specs.Perform.{PerformsAgain};
-use crate::check::RegroupCheck;
-use crate::check::check_regroup;
 use crate::finish::finish;
 use crate::finish::refuse;
 use areas::area::clear;
+use checks::check::RegroupCheck;
+use checks::check::check_regroup;
 use format::limits::Limits;
 use queries::stage::GroupAt;
+use regrouping::joined_group::joined_group;
 use spec_run::answer::Answer;
-use trays::regroup;
 
 /// The regrouping of a call that passed its tests, performed in 65,536 bytes of the work area, and its result.
 fn perform_again<'a>(
@@ -26,7 +26,7 @@ fn perform_again<'a>(
     requires { ⌜ RegroupReady (now query) group (now first) (now second) (now work) ⌝ }
     ensures { λ a. ⌜ PerformsAgain (now (query .entry)) group (now (first .entry)) (now (second .entry)) (now (result .entry)) (now (result .exit)) a ⌝ }
 {
-    let ended = regroup::regroup(query, group, first, second, work);
+    let ended = joined_group(query, group, first, second, work);
     finish(work, ended, result)
 }
 

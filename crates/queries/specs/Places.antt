@@ -5,6 +5,7 @@ use mathlib.Core.Path.{_≡_}
 use mathlib.Core.List.{List, map}
 use Prim.Native.Nat.{ℕ, _+_, _*_, _≤_}
 use lib.ListN.{getD}
+use Rattle.spec_trees.specs.Limits.{aggregatesMax, groupingMax}
 use Rattle.spec_trees.specs.Tree.{Tree, trees}
 use Rattle.spec_trees.specs.Bytes.{fieldBytes, bytes}
 use Rattle.areas.specs.Area.{Is, IsAt}
@@ -13,7 +14,7 @@ use Rattle.format.specs.Stand.{treesBytes, Holds}
 use Rattle.spec_queries.specs.Query.{Path, Route, Criterion, always, exists, equal, same, negated, both, either, Data, literal, path, listed, test, choice, reduced, Datas, Item, keep, place, Pair, Stage, match, unwind, project, group, lookup}
 use Rattle.spec_queries.specs.Bytes.{pathF, routeF, criterionF, dataF, dataFs, itemF, pairF, stageF, queryBytes}
 use Rattle.spec_queries.specs.Decode.{pairOf}
-use Rattle.spec_queries.specs.Rules.{OkD}
+use Rattle.spec_queries.specs.Rules.{OkD, OkPairs}
 use Rattle.queries.specs.declared.criterion.CriterionAt.{CriterionAt}
 use Rattle.queries.specs.declared.data.DataAt.{DataAt}
 use Rattle.queries.specs.declared.item.ItemAt.{ItemAt}
@@ -169,6 +170,13 @@ ReadsPair q at r = (x : Pair) → IsAt q at (pairBytes x) → PairIs q at x r
 -- ---- stages
 abbrev pub GroupIs : (q : List ℕ) (at : Span) → Stage → GroupAt → Type 0
 GroupIs q at x r = TwoParts group pairsBytes pairsBytes q at x (r .aggregates) (r .keys)
+
+-- the pairs of a group, its aggregates and those of its key, stand in q there, and the rules allow them
+pub record Pairs (q : List ℕ) (at : GroupAt) (ags gs : List Pair) : Type 0 where
+  pub aggregates-ok : OkPairs aggregatesMax ags
+  pub aggregates-is : IsAt q (at .aggregates) (pairsBytes ags)
+  pub grouping-ok : OkPairs groupingMax gs
+  pub grouping-is : IsAt q (at .keys) (pairsBytes gs)
 
 abbrev pub LookupIs : (q : List ℕ) (at : Span) → Stage → LookupAt → Type 0
 LookupIs q at x r = ThreeParts lookup routeBytes routeBytes pathBytes q at x (r .own) (r .theirs) (r .target)

@@ -25,7 +25,7 @@ use Rattle.areas.specs.AreaLaws.{is-keep, is-join}
 use Rattle.spec_queries.specs.Query.{Pair, Stage}
 use Rattle.spec_queries.specs.Bytes.{pairF}
 use Rattle.spec_queries.specs.Rules.{OkPair, OkPairs}
-use Rattle.queries.specs.Places.{pairsBytes, arrayTrees, HoldsOk, OkAt}
+use Rattle.queries.specs.Places.{pairsBytes, arrayTrees, HoldsOk, OkAt, Pairs}
 use Rattle.queries.specs.PartLaws.{list-parts, list-none}
 use Rattle.spec_stages.specs.Paths.{over, apply}
 use Rattle.spec_stages.specs.Merge.{merge, build}
@@ -57,7 +57,7 @@ use Rattle.stream.specs.TailLaws.{tail-is, tail-length, lent-front, ends-beyond
 use Rattle.stream.specs.Feed.{Planned, Front, FeedReady, FeedPost}
 use Rattle.spec_stages.specs.StageLaws.{build-fits, void-fits}
 use Rattle.stretches.specs.declared.next.StretchAt.{StretchAt}
-use Rattle.stretches.specs.Stretch.{Pairs, Gathered, GroupReady, GroupPost, through}
+use Rattle.stretches.specs.Stretch.{Gathered, GroupReady, GroupPost, through}
 use Rattle.stretches.specs.FirstLaws.{open-nothing, shows-all}
 use Rattle.stretches.specs.Grouping.{SubsetsIs, begun, ClassFrom, ClassFed, SubsetReady, SubsetFed}
 

@@ -13,7 +13,7 @@ use Rattle.spec_trees.specs.Within.{Allowed, AllowedA}
 use Rattle.areas.specs.Area.{Is, IsAt, fieldEnd}
 use Rattle.areas.specs.declared.span.Span.{Span}
 use Rattle.spec_queries.specs.Query.{Pair, Stage}
-use Rattle.queries.specs.Places.{pairsBytes, arrayTrees, HoldsOk}
+use Rattle.queries.specs.Places.{pairsBytes, arrayTrees, HoldsOk, Pairs}
 use Rattle.spec_stages.specs.Group.{Class, alike}
 use Rattle.spec_stages.specs.Classes.{begins, scan}
 use Rattle.stream.specs.declared.collector.Collector.{Collector}
@@ -21,7 +21,7 @@ use Rattle.stream.specs.Map.{frontPart}
 use Rattle.stream.specs.Collector.{Open, Feeds}
 use Rattle.stream.specs.Feed.{Planned}
 use Rattle.stretches.specs.declared.next.StretchAt.{StretchAt}
-use Rattle.stretches.specs.Stretch.{Pairs, Gathered, GroupReady, through}
+use Rattle.stretches.specs.Stretch.{Gathered, GroupReady, through}
 
 -- r is how many subsets the grouping pairs have, whatever pairs stand there
 abbrev pub SubsetsIs : (q : List ℕ) (keysAt : Span) → ℕ → Type 0

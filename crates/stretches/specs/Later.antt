@@ -7,7 +7,7 @@ use Rattle.spec_trees.specs.Limits.{stagesMax, workMin}
 use Rattle.spec_trees.specs.Tree.{Tree}
 use Rattle.spec_trees.specs.Within.{AllowedA}
 use Rattle.spec_queries.specs.Query.{Pair, Stage}
-use Rattle.queries.specs.Places.{arrayTrees}
+use Rattle.queries.specs.Places.{arrayTrees, Pairs}
 use Rattle.spec_stages.specs.Group.{grouped}
 use Rattle.spec_stages.specs.Stages.{State, going, large, long, stages}
 use Rattle.stream.specs.declared.collector.Collector.{Collector}
@@ -20,7 +20,7 @@ use Rattle.stretches.specs.declared.ended.Ended.{Ended}
 use Rattle.stretches.specs.Ended.{EndedIs}
 use Rattle.areas.specs.declared.span.Span.{Span}
 use Rattle.stretches.specs.declared.next.StretchAt.{StretchAt}
-use Rattle.stretches.specs.Stretch.{Shows, Pairs, through}
+use Rattle.stretches.specs.Stretch.{Shows, through}
 
 -- the trees of the state are allowed
 abbrev pub Allows : State → Type 0

@@ -20,7 +20,7 @@ use Rattle.areas.specs.declared.span.Span.{Span}
 use Rattle.areas.specs.AreaLaws.{written}
 use Rattle.spec_queries.specs.Query.{Stage, group}
 use Rattle.spec_queries.specs.Rules.{OkS}
-use Rattle.queries.specs.Places.{arrayTrees, stagesBytes}
+use Rattle.queries.specs.Places.{arrayTrees, stagesBytes, Pairs}
 use Rattle.spec_stages.specs.Group.{grouped}
 use Rattle.spec_stages.specs.Stages.{State, going, large, long, after, step, stages}
 use Rattle.spec_stages.specs.KeepLaws.{stages-allowed}
@@ -37,7 +37,7 @@ use Rattle.stretches.specs.declared.ended.Ended.{Ended}
 use Rattle.stretches.specs.declared.next.Next.{Next}
 use Rattle.stretches.specs.declared.next.StretchAt.{StretchAt}
 use Rattle.stretches.specs.Ended.{HeldIs, FullIs, EndedIs}
-use Rattle.stretches.specs.Stretch.{Shows, Pairs, Gathered, GroupReady, GroupPost, through}
+use Rattle.stretches.specs.Stretch.{Shows, Gathered, GroupReady, GroupPost, through}
 use Rattle.stretches.specs.Next.{StretchIs, NextPost}
 use Rattle.stretches.specs.Later.{Allows, LastPost, HeldReady, HeldPost, LaterReady, LaterPost}
 

@@ -3,18 +3,16 @@
 use mathlib.Core.List.{List, []}
 use Prim.Native.Nat.{ℕ, _+_, _≤_}
 use lib.ListN.{length}
-use Rattle.spec_trees.specs.Limits.{aggregatesMax, groupingMax, workMin}
+use Rattle.spec_trees.specs.Limits.{workMin}
 use Rattle.spec_trees.specs.Lists.{each}
 use Rattle.spec_trees.specs.Tree.{Tree}
 use Rattle.spec_trees.specs.Within.{AllowedA}
-use Rattle.areas.specs.Area.{Is, IsAt}
+use Rattle.areas.specs.Area.{Is}
 use Rattle.areas.specs.declared.span.Span.{Span}
 use Rattle.spec_queries.specs.Query.{Pair, Stage}
-use Rattle.spec_queries.specs.Rules.{OkPairs}
-use Rattle.queries.specs.Places.{pairsBytes, arrayTrees, HoldsOk}
+use Rattle.queries.specs.Places.{arrayTrees, HoldsOk, Pairs}
 use Rattle.spec_stages.specs.Group.{Class, classTree, grouped}
 use Rattle.spec_stages.specs.Stages.{State, going, after, stages}
-use Rattle.queries.specs.declared.stage.GroupAt.{GroupAt}
 use Rattle.stream.specs.declared.collector.Collector.{Collector}
 use Rattle.stretches.specs.declared.next.StretchAt.{StretchAt}
 use Rattle.spec_stages.specs.Stretch.{before}
@@ -42,13 +40,6 @@ FirstPost i v q stagesAt j r = (ts : List Tree) (ss : List Stage) (us : List Tre
     → AllowedA ts → Is i 3 (length i) (arrayTrees ts) → Planned q stagesAt j ss us → Shows v r (stages us (before ss) (going ts))
 
 -- ---- a group and the stages behind it
--- the group's pairs, in q: aggregates and grouping pairs
-pub record Pairs (q : List ℕ) (at : GroupAt) (ags gs : List Pair) : Type 0 where
-  pub aggregates-ok : OkPairs aggregatesMax ags
-  pub aggregates-is : IsAt q (at .aggregates) (pairsBytes ags)
-  pub grouping-ok : OkPairs groupingMax gs
-  pub grouping-is : IsAt q (at .keys) (pairsBytes gs)
-
 -- the trees of an array, in w up to n
 pub record Gathered (w : List ℕ) (n : ℕ) (ts : List Tree) : Type 0 where
   pub allowed : AllowedA ts

@@ -21,7 +21,7 @@ pub enum Next {
 }
 
 /// The stage as a group, if it is one; `next` are the stages behind it.
-pub fn group_of(stage: StageAt, next: Span) -> Next
+fn group_of(stage: StageAt, next: Span) -> Next
     ensures { λ r. ⌜ r ≡ groupOf stage next ⌝ }
 {
     match stage {

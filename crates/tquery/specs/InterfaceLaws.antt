@@ -15,8 +15,8 @@ use Rattle.spec_run.specs.Run.{Outcome, checkNumber}
 use Rattle.spec_run.specs.RunLaws.{refusal-number, Short}
 use Rattle.spec_run.specs.Answer.{numbered}
 use Rattle.spec_run.specs.AnswerLaws.{AnsweredBy}
-use Rattle.engine.specs.Check.{checkedAs}
-use Rattle.engine.specs.CheckLaws.{checked-number}
+use Rattle.checks.specs.Check.{checkedAs}
+use Rattle.checks.specs.CheckLaws.{checked-number}
 use Rattle.tquery.specs.Interface.{numberFrom, lengthFrom}
 
 -- ---- an answer in one number

@@ -12,9 +12,9 @@ use Rattle.spec_queries.specs.Rules.{OkP⁺, OkPair, OkQ}
 use Rattle.spec_queries.specs.Again.{targets, leads, distinctTargets, regrouping}
 use Rattle.areas.specs.Area.{IsAt}
 use Rattle.areas.specs.declared.span.Span.{Span}
-use Rattle.queries.specs.Places.{pathBytes, pairsBytes, OkAt}
+use Rattle.queries.specs.Places.{pathBytes, pairsBytes, OkAt, Pairs}
 use Rattle.queries.specs.declared.stage.GroupAt.{GroupAt}
-use Rattle.stretches.specs.Stretch.{Pairs}
+use Rattle.queries.specs.declared.stage.StageAt.{StageAt}
 use Rattle.trays.specs.declared.tray_group.TrayGroup.{TrayGroup}
 
 -- ---- destinations, one against others
@@ -66,6 +66,14 @@ abbrev pub DistinctIs : (q : List ℕ) → GroupAt → Bool → Type 0
 DistinctIs q at r = (ag gs : List Pair) → Pairs q at ag gs → r ≡ distinctTargets ag gs
 
 -- ---- a query
+-- a stage as a group
+abbrev pub groupOf : StageAt → TrayGroup
+groupOf (StageAt.Match f) = TrayGroup.Other
+groupOf (StageAt.Unwind f) = TrayGroup.Other
+groupOf (StageAt.Project f) = TrayGroup.Other
+groupOf (StageAt.Group g) = TrayGroup.At g
+groupOf (StageAt.Lookup f) = TrayGroup.Other
+
 -- q is the byte form of a query that the rules allow
 pub record QueryForm (q : List ℕ) : Type 0 where
   pub query : List Stage

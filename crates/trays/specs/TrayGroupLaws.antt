@@ -18,20 +18,16 @@ use Rattle.spec_queries.specs.Again.{leads, regrouped, regrouping}
 use Rattle.areas.specs.Area.{Is, IsAt, fieldEnd, span}
 use Rattle.areas.specs.declared.span.Span.{Span}
 use Rattle.format.specs.Stand.{Holds}
-use Rattle.queries.specs.Places.{pathBytes, pairBytes, pairsBytes, stageBytes, stagesBytes, HoldsOk, OkAt, PairIs, ReadsPair, ReadsStage, ReadsQuery}
+use Rattle.queries.specs.Places.{pathBytes, pairBytes, pairsBytes, stageBytes, stagesBytes, HoldsOk, OkAt, PairIs, ReadsPair, ReadsStage, ReadsQuery, Pairs}
 use Rattle.queries.specs.PartLaws.{list-parts, list-none}
 use Rattle.queries.specs.Steps.{stepCount, stepAt, StepInside}
 use Rattle.queries.specs.StepLaws.{steps-are, step-is, step-inside, path-room}
 use Rattle.queries.specs.declared.item.PairAt.{PairAt}
 use Rattle.queries.specs.declared.stage.GroupAt.{GroupAt}
 use Rattle.queries.specs.declared.stage.StageAt.{StageAt}
-use Rattle.stretches.specs.declared.next.Next.{Next}
-use Rattle.stretches.specs.declared.next.StretchAt.{StretchAt}
-use Rattle.stretches.specs.Next.{stretchAt, groupOf}
-use Rattle.stretches.specs.Stretch.{Pairs}
 use Rattle.paths.specs.ComparedLaws.{is-none}
 use Rattle.trays.specs.declared.tray_group.TrayGroup.{TrayGroup}
-use Rattle.trays.specs.TrayGroup.{noneLeads, alone, apart, NoneLeadsIs, AloneIs, ApartIs, GroupStands, DistinctIs, QueryForm, IsTrayGroup, TrayGroupIs}
+use Rattle.trays.specs.TrayGroup.{noneLeads, alone, apart, groupOf, NoneLeadsIs, AloneIs, ApartIs, GroupStands, DistinctIs, QueryForm, IsTrayGroup, TrayGroupIs}
 use Rattle.trays.specs.TargetLaws.{leads-both, distinct-parts}
 
 -- ---- the destination of a pair
@@ -222,34 +218,34 @@ module _ {q : List ℕ} {x : Span} (reads : ReadsQuery q x) where
       pub query-stage : QueryForm q → Holds stageBytes q (x .from) (x .to)
       query-stage h = let c = one-stage (h .query) (h .query-is) in record { value = c .0; value-is = c .2 }
 
-      module _ {st : StageAt} (r : ReadsStage q x st) (behindAt : Span) {found : Next} (k : found ≡ groupOf st behindAt) where
+      module _ {st : StageAt} (r : ReadsStage q x st) {found : TrayGroup} (k : found ≡ groupOf st) where
         -- is no group
-        pub query-plain : found ≡ Next.End → TrayGroupIs q TrayGroup.Other
+        pub query-plain : found ≡ TrayGroup.Other → TrayGroupIs q TrayGroup.Other
         unfolding regrouping
         query-plain g = other-only (λ ss y o. let c = one-stage ss y in ap regrouping (c .1) ∙ go (c .0) (c .2) st refl (sym k ∙ g))
           where
-            go : (s : Stage) → IsAt q x (stageBytes s) → (i : StageAt) → st ≡ i → groupOf i behindAt ≡ Next.End → regrouping (s ∷ []) ≡ none
+            go : (s : Stage) → IsAt q x (stageBytes s) → (i : StageAt) → st ≡ i → groupOf i ≡ TrayGroup.Other → regrouping (s ∷ []) ≡ none
             go s h (StageAt.Match f) w e = ap (λ j. regrouping (j ∷ [])) (r s h .match-is f w .same)
             go s h (StageAt.Unwind f) w e = ap (λ j. regrouping (j ∷ [])) (r s h .unwind-is f w .same)
             go s h (StageAt.Project f) w e = ap (λ j. regrouping (j ∷ [])) (r s h .project-is f w .same)
             go s h (StageAt.Group f) w e = let a : _≡_ {A = ℕ} 0 1 = cc in absurd (omega arith)
             go s h (StageAt.Lookup f) w e = ap (λ j. regrouping (j ∷ [])) (r s h .lookup-is f w .same)
 
-        module _ {at : StretchAt} (w : found ≡ Next.Group at) where
-          is-group : st ≡ StageAt.Group (at .group)
+        module _ {at : GroupAt} (w : found ≡ TrayGroup.At at) where
+          is-group : st ≡ StageAt.Group at
           is-group = go st refl (sym k ∙ w)
             where
-              go : (i : StageAt) → st ≡ i → groupOf i behindAt ≡ Next.Group at → st ≡ StageAt.Group (at .group)
+              go : (i : StageAt) → st ≡ i → groupOf i ≡ TrayGroup.At at → st ≡ StageAt.Group at
               go (StageAt.Match f) z e = let a : _≡_ {A = ℕ} 0 1 = cc in absurd (omega arith)
               go (StageAt.Unwind f) z e = let a : _≡_ {A = ℕ} 0 1 = cc in absurd (omega arith)
               go (StageAt.Project f) z e = let a : _≡_ {A = ℕ} 0 1 = cc in absurd (omega arith)
-              go (StageAt.Group f) z e = let b : stretchAt f behindAt ≡ at = cc in z ∙ ap (λ (j : StretchAt). StageAt.Group (j .group)) b
+              go (StageAt.Group f) z e = let b : f ≡ at = cc in z ∙ ap StageAt.Group b
               go (StageAt.Lookup f) z e = let a : _≡_ {A = ℕ} 0 1 = cc in absurd (omega arith)
 
-          stage-group : (ss : List Stage) → q ≡ queryBytes ss → OkQ ss → (ag : List Pair) × (gs : List Pair) × (ss ≡ group ag gs ∷ []) × Pairs q (at .group) ag gs
+          stage-group : (ss : List Stage) → q ≡ queryBytes ss → OkQ ss → (ag : List Pair) × (gs : List Pair) × (ss ≡ group ag gs ∷ []) × Pairs q at ag gs
           stage-group ss y o =
               let c = one-stage ss y in
-              let d = r (c .0) (c .2) .group-is (at .group) is-group in
+              let d = r (c .0) (c .2) .group-is at is-group in
               let e : ss ≡ group (d .first) (d .second) ∷ [] = c .1 ∙ ap (λ j. j ∷ []) (d .same) in
               let p = subst (All OkS) e (o .stages) .0 in (
                 d .first,
@@ -258,19 +254,19 @@ module _ {q : List ℕ} {x : Span} (reads : ReadsQuery q x) where
                 record { aggregates-ok = p .0; aggregates-is = d .first-is; grouping-ok = p .1; grouping-is = d .second-is },
               )
 
-          pub query-group : QueryForm q → GroupStands q (at .group)
+          pub query-group : QueryForm q → GroupStands q at
           query-group h = let c = stage-group (h .query) (h .query-is) (h .query-ok) in record { aggregates = c .0; grouping = c .1; pairs = c .3 }
 
-          pub query-such : {b : Bool} → DistinctIs q (at .group) b → b ≡ true → TrayGroupIs q (TrayGroup.At (at .group))
+          pub query-such : {b : Bool} → DistinctIs q at b → b ≡ true → TrayGroupIs q (TrayGroup.At at)
           query-such i y ss u o =
               let c = stage-group ss u o in
-              let t : IsTrayGroup q ss (at .group) = record { aggregates = c .0; grouping = c .1; same = c .2; distinct = sym (i (c .0) (c .1) (c .3)) ∙ y; pairs = c .3 } in
+              let t : IsTrayGroup q ss at = record { aggregates = c .0; grouping = c .1; same = c .2; distinct = sym (i (c .0) (c .1) (c .3)) ∙ y; pairs = c .3 } in
               record {
-                at-is = λ f v. let e : at .group ≡ f = cc in subst (IsTrayGroup q ss) e t;
+                at-is = λ f v. let e : at ≡ f = cc in subst (IsTrayGroup q ss) e t;
                 other-is = λ v. let a : _≡_ {A = ℕ} 0 1 = cc in absurd (omega arith);
               }
 
-          pub query-not-such : {b : Bool} → DistinctIs q (at .group) b → b ≡ false → TrayGroupIs q TrayGroup.Other
+          pub query-not-such : {b : Bool} → DistinctIs q at b → b ≡ false → TrayGroupIs q TrayGroup.Other
           unfolding regrouping only
           query-not-such i y = other-only (λ ss u o.
               let c = stage-group ss u o in

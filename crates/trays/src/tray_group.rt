@@ -1,19 +1,19 @@
 //! Whether a query is one group alone whose tray results can be grouped again: all its destinations, of the aggregates
 //! and of the key together, are single labels, and no two are equal.
+ghost use mathlib.Core.Path.{_≡_};
 ghost use Rattle.spec_trees.specs.Lists.{All};
 ghost use Rattle.spec_queries.specs.Rules.{OkPair};
 ghost use Rattle.queries.specs.Places.{pairsBytes, OkAt};
-ghost use Rattle.trays.specs.TrayGroup.{QueryForm, TargetsReady, GroupStands, NoneLeadsIs, AloneIs, ApartIs, DistinctIs, TrayGroupIs};
+ghost use Rattle.trays.specs.TrayGroup.{groupOf, QueryForm, TargetsReady, GroupStands, NoneLeadsIs, AloneIs, ApartIs, DistinctIs, TrayGroupIs};
 use areas::area::field_end;
 use areas::span::Span;
 use queries::item::pair_at;
 use queries::path::step_at;
 use queries::path::steps;
 use queries::stage::GroupAt;
+use queries::stage::StageAt;
 use queries::stage::stage_at;
 use queries::stage::stages_of;
-use stretches::next::Next;
-use stretches::next::group_of;
 
 /// Where the pairs of such a group stand; or the query is another.
 pub enum TrayGroup {
@@ -85,6 +85,19 @@ fn distinct(query: &[u8], group: GroupAt) -> bool
     apart(query, keys, Span { from: end, to: end })
 }
 
+/// The stage, if it is a group.
+fn group_of(stage: StageAt) -> TrayGroup
+    ensures { λ r. ⌜ r ≡ groupOf stage ⌝ }
+{
+    match stage {
+        StageAt::Match(_) => TrayGroup::Other,
+        StageAt::Unwind(_) => TrayGroup::Other,
+        StageAt::Project(_) => TrayGroup::Other,
+        StageAt::Group(group) => TrayGroup::At(group),
+        StageAt::Lookup(_) => TrayGroup::Other,
+    }
+}
+
 /// The group, if an admitted query is one such group alone.
 pub fn tray_group(query: &[u8]) -> TrayGroup
     requires { ⌜ QueryForm (now query) ⌝ }
@@ -99,11 +112,10 @@ pub fn tray_group(query: &[u8]) -> TrayGroup
         return TrayGroup::Other;
     }
     let stage = stage_at(query, stages);
-    let next = group_of(stage, Span { from: end, to: end });
-    let Next::Group(at) = next else {
+    let found = group_of(stage);
+    let TrayGroup::At(group) = found else {
         return TrayGroup::Other;
     };
-    let group = at.group;
     if distinct(query, group) {
         TrayGroup::At(group)
     } else {

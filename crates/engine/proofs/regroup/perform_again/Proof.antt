@@ -6,16 +6,16 @@ use Rattle.engine.proofs.regroup.perform_again.Tie as tie
 use Rattle.engine.proofs.regroup.perform_again.Reads as reads
 use Rattle.engine.proofs.regroup.perform_again.Lts as lts
 use Rattle.engine.proofs.finish.finish.Reads as finish-reads
-use Rattle.trays.proofs.regroup.regroup.Reads as regroup-reads
+use Rattle.regrouping.proofs.joined_group.joined_group.Reads as joined-group-reads
 
-regroup-requires : tie.Need-regroup-requires
-regroup-requires c κs = search needs
+joined-group-requires : tie.Need-joined-group-requires
+joined-group-requires c κs = search needs
 
 finish-requires : tie.Need-finish-requires
 finish-requires c κs =
-    again-finish (c .before .before .before .before .regroup .ensures)
+    again-finish (c .before .before .before .before .joined-group .ensures)
     (c .before .before .before .before .before .before .before .before .before .before .before .pre)
-    (c .before .before .before .before .regroup .kept .1 .1 .1 .1 .0)
+    (c .before .before .before .before .joined-group .kept .1 .1 .1 .1 .0)
 
 same-length : tie.Need-same-length
 same-length c = search needs
@@ -25,10 +25,10 @@ same-length-2 c = search needs
 
 returns : tie.Need-returns
 returns c =
-    again-perform (c .before .before .before .before .before .before .before .regroup .ensures)
+    again-perform (c .before .before .before .before .before .before .before .joined-group .ensures)
     (c .before .before .before .before .before .before .before .before .before .before .before .before .before .before .args .result .now)
     (c .before .before .finish .ensures)
 
 pub perform-again-spec : {M : Type 1} → statement M
 perform-again-spec =
-    tie.close (tie.spec regroup-requires finish-requires same-length same-length-2 returns)
+    tie.close (tie.spec joined-group-requires finish-requires same-length same-length-2 returns)

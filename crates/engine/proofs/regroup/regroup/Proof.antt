@@ -14,7 +14,7 @@ use Rattle.engine.proofs.regroup.regroup.Tie as tie
 use Rattle.engine.proofs.regroup.regroup.Reads as reads
 use Rattle.engine.proofs.regroup.regroup.Lts as lts
 use Rattle.areas.proofs.area.clear.Reads as clear-reads
-use Rattle.engine.proofs.check.check_regroup.Reads as check-regroup-reads
+use Rattle.checks.proofs.check.check_regroup.Reads as check-regroup-reads
 use Rattle.engine.proofs.finish.refuse.Reads as refuse-reads
 use Rattle.engine.proofs.regroup.perform_again.Reads as perform-again-reads
 

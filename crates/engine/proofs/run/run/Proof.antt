@@ -20,7 +20,7 @@ use Rattle.engine.proofs.run.run.Tie as tie
 use Rattle.engine.proofs.run.run.Reads as reads
 use Rattle.engine.proofs.run.run.Lts as lts
 use Rattle.areas.proofs.area.clear.Reads as clear-reads
-use Rattle.engine.proofs.check.check_call.Reads as check-call-reads
+use Rattle.checks.proofs.check.check_call.Reads as check-call-reads
 use Rattle.engine.proofs.finish.refuse.Reads as refuse-reads
 use Rattle.engine.proofs.run.perform.Reads as perform-reads
 

@@ -18,8 +18,8 @@ use Rattle.trays.proofs.tray_group.tray_group.Lts as lts
 use Rattle.areas.proofs.area.field_end.Reads as field-end-reads
 use Rattle.queries.proofs.stage.stage_at.Reads as stage-at-reads
 use Rattle.queries.proofs.stage.stages_of.Reads as stages-of-reads
-use Rattle.stretches.proofs.next.group_of.Reads as group-of-reads
 use Rattle.trays.proofs.tray_group.distinct.Reads as distinct-reads
+use Rattle.trays.proofs.tray_group.group_of.Reads as group-of-reads
 
 stages-of-requires : tie.Need-stages-of-requires
 stages-of-requires c κs = search needs
@@ -46,8 +46,8 @@ stage-at-requires c κs =
 group-of-requires : tie.Need-group-of-requires
 group-of-requires c κs = search needs
 
-enum-known-next : tie.Need-enum-known-next
-enum-known-next c = search needs
+enum-known-found : tie.Need-enum-known-found
+enum-known-found c = search needs
 
 enum-told : tie.Need-enum-told
 enum-told c = search needs
@@ -57,40 +57,38 @@ returns-3 c =
     query-plain (c .before .before .before .before .before .before .before .before .stages-of .ensures)
     (c .before .before .before .before .before .before .if1 .left)
     (c .before .before .before .before .before .field-end .ensures)
-    (c .before .before .before .before .if2 .left) (c .before .before .before .stage-at .ensures) _
+    (c .before .before .before .before .if2 .left) (c .before .before .before .stage-at .ensures)
     (c .before .before .group-of .ensures) (c .enum-told .given .1)
 
 distinct-requires : tie.Need-distinct-requires
 distinct-requires c κs =
-    query-group (c .before .before .before .before .before .before .before .before .before .before .stages-of .ensures)
-    (c .before .before .before .before .before .before .before .before .if1 .left)
-    (c .before .before .before .before .before .before .before .field-end .ensures)
-    (c .before .before .before .before .before .before .if2 .left)
-    (c .before .before .before .before .before .stage-at .ensures) _
-    (c .before .before .before .before .group-of .ensures) (c .before .before .next .given .1)
-    (c .before .before .before .before .before .before .before .before .before .before .before .before .pre)
+    query-group (c .before .before .before .before .before .before .before .before .before .stages-of .ensures)
+    (c .before .before .before .before .before .before .before .if1 .left)
+    (c .before .before .before .before .before .before .field-end .ensures)
+    (c .before .before .before .before .before .if2 .left)
+    (c .before .before .before .before .stage-at .ensures)
+    (c .before .before .before .group-of .ensures) (c .before .found .given .1)
+    (c .before .before .before .before .before .before .before .before .before .before .before .pre)
 
 returns-4 : tie.Need-returns-4
 returns-4 c =
-    query-such (c .before .before .before .before .before .before .before .before .before .before .before .before .stages-of .ensures)
-    (c .before .before .before .before .before .before .before .before .before .before .if1 .left)
-    (c .before .before .before .before .before .before .before .before .before .field-end .ensures)
-    (c .before .before .before .before .before .before .before .before .if2 .left)
-    (c .before .before .before .before .before .before .before .stage-at .ensures) _
-    (c .before .before .before .before .before .before .group-of .ensures)
-    (c .before .before .before .before .next .given .1) (c .before .distinct .ensures)
-    (c .if3 .taken)
+    query-such (c .before .before .before .before .before .before .before .before .before .before .before .stages-of .ensures)
+    (c .before .before .before .before .before .before .before .before .before .if1 .left)
+    (c .before .before .before .before .before .before .before .before .field-end .ensures)
+    (c .before .before .before .before .before .before .before .if2 .left)
+    (c .before .before .before .before .before .before .stage-at .ensures)
+    (c .before .before .before .before .before .group-of .ensures)
+    (c .before .before .before .found .given .1) (c .before .distinct .ensures) (c .if3 .taken)
 
 returns-5 : tie.Need-returns-5
 returns-5 c =
-    query-not-such (c .before .before .before .before .before .before .before .before .before .before .before .before .stages-of .ensures)
-    (c .before .before .before .before .before .before .before .before .before .before .if1 .left)
-    (c .before .before .before .before .before .before .before .before .before .field-end .ensures)
-    (c .before .before .before .before .before .before .before .before .if2 .left)
-    (c .before .before .before .before .before .before .before .stage-at .ensures) _
-    (c .before .before .before .before .before .before .group-of .ensures)
-    (c .before .before .before .before .next .given .1) (c .before .distinct .ensures)
-    (c .if3 .left)
+    query-not-such (c .before .before .before .before .before .before .before .before .before .before .before .stages-of .ensures)
+    (c .before .before .before .before .before .before .before .before .before .if1 .left)
+    (c .before .before .before .before .before .before .before .before .field-end .ensures)
+    (c .before .before .before .before .before .before .before .if2 .left)
+    (c .before .before .before .before .before .before .stage-at .ensures)
+    (c .before .before .before .before .before .group-of .ensures)
+    (c .before .before .before .found .given .1) (c .before .distinct .ensures) (c .if3 .left)
 
 pub tray-group-spec : {M : Type 1} → statement M
 tray-group-spec =
@@ -102,7 +100,7 @@ tray-group-spec =
     returns-2
     stage-at-requires
     group-of-requires
-    enum-known-next
+    enum-known-found
     enum-told
     returns-3
     distinct-requires

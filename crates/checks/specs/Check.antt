@@ -1,0 +1,45 @@
+-- The tests of a run by the answers of the checks, in their order.
+use mathlib.Core.List.{List}
+use mathlib.Core.Bool.{cond}
+use Prim.Native.Nat.{ℕ}
+use lib.Dec.{leb}
+use Rattle.spec_trees.specs.Limits.{workMin}
+use Rattle.format.specs.declared.check.Check.{Check}
+use Rattle.format.specs.declared.check.Check.the-variants as check
+use Rattle.spec_trees.specs.Decode.{readArray}
+use Rattle.format.specs.Check.{checkOf}
+use Rattle.spec_queries.specs.Decode.{readQuery}
+use Rattle.spec_run.specs.declared.answer.Refusal.{Refusal}
+use Rattle.spec_run.specs.declared.answer.Refusal.the-variants.{WorkShort, QueryLong, QueryMalformed, InputLong, InputMalformed, JoinedLong, JoinedMalformed}
+use Rattle.spec_run.specs.Refusal.{numberOf}
+use Rattle.checks.specs.declared.check.CallCheck.{CallCheck}
+use Rattle.checks.specs.declared.check.CallCheck.the-variants.{Passed, Refused}
+
+-- by the answer of a check: over its limit, or malformed
+abbrev pub decided : Check → Refusal → Refusal → CallCheck
+decided check.Accepted r s = Passed
+decided check.Overlong r s = Refused r
+decided check.Malformed r s = Refused s
+
+-- document 01's number of a check
+abbrev pub checkedAs : Check → Refusal → Refusal → ℕ
+checkedAs check.Accepted r s = 0
+checkedAs check.Overlong r s = numberOf r
+checkedAs check.Malformed r s = numberOf s
+
+-- the first refusal stands
+abbrev pub next : CallCheck → CallCheck → CallCheck
+next Passed y = y
+next (Refused r) y = Refused r
+
+-- tests 1 to 3: the query, and the length of the work area
+unfoldable pub preparedCheck : List ℕ → ℕ → CallCheck
+preparedCheck q work = cond (leb workMin work) (decided (checkOf (readQuery q)) QueryLong QueryMalformed) (Refused WorkShort)
+
+-- an input, and a second array with its refusals
+unfoldable pub arraysCheck : List ℕ → List ℕ → Refusal → Refusal → CallCheck
+arraysCheck a b r s = next (decided (checkOf (readArray a)) InputLong InputMalformed) (decided (checkOf (readArray b)) r s)
+
+-- query, input, joined array, the length of the work area
+unfoldable pub callCheck : List ℕ → List ℕ → List ℕ → ℕ → CallCheck
+callCheck q i j work = next (preparedCheck q work) (arraysCheck i j JoinedLong JoinedMalformed)

@@ -1,0 +1,6 @@
+-- Definitions.
+pub mod Check
+pub mod RegroupCheck
+-- Laws.
+pub mod CheckLaws
+pub mod RegroupCheckLaws

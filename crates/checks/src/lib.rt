@@ -1,0 +1,2 @@
+//! The tests of the calls, before anything is changed.
+pub mod check;

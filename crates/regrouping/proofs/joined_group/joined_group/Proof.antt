@@ -1,0 +1,97 @@
+-- Made from Proof.ans by answers.py, which overwrites this file: edit Proof.ans.
+use mathlib.Core.Path.{refl, sym, _∙_}
+use native.Mathlib.Omega.{arith}
+use Rattle.regrouping.specs.JoinedGroupLaws.{
+  head-inside,
+  joined-long,
+  again-ready,
+  again-ended,
+  pairs-fit,
+}
+use borrow.Author.Needs.{needs}
+use Rattle.regrouping.proofs.joined_group.joined_group.Statement.{statement}
+use Rattle.regrouping.proofs.joined_group.joined_group.Tie as tie
+use Rattle.regrouping.proofs.joined_group.joined_group.Reads as reads
+use Rattle.regrouping.proofs.joined_group.joined_group.Lts as lts
+use Rattle.regrouping.proofs.join.join.Reads as join-reads
+use Rattle.stretches.proofs.group_stretch.regroup.Reads as regroup-reads
+use Rattle.stretches.proofs.later.last.Reads as last-reads
+use Rattle.trays.proofs.again.write_again.Reads as write-again-reads
+
+join-requires : tie.Need-join-requires
+join-requires c κs = (
+  head-inside _ (c .before .before .before .before .before .pre .first)
+      (c .before .before .before .before .before .pre .first-is),
+  head-inside _
+      (c .before .before .before .before .before .pre .second)
+      (c .before .before .before .before .before .pre .second-is),
+  omega
+      (arith, c .before .before .before .before .before .pre .size),
+)
+
+enum-known-joined : tie.Need-enum-known-joined
+enum-known-joined c = search needs
+
+enum-told : tie.Need-enum-told
+enum-told c = search needs
+
+same-length : tie.Need-same-length
+same-length c = search needs
+
+returns : tie.Need-returns
+returns c = joined-long (c .before .before .before .before .join .ensures) (c .enum-told .given .1)
+
+slice-aggregate-write-again : tie.Need-slice-aggregate-write-again
+slice-aggregate-write-again c = search needs
+
+write-again-requires : tie.Need-write-again-requires
+write-again-requires c κs =
+    pairs-fit _ refl (c .before .before .before .before .before .before .before .before .before .before .before .before .pre)
+
+slice-aggregate-regroup : tie.Need-slice-aggregate-regroup
+slice-aggregate-regroup c = search needs
+
+slice-aggregate-regroup-2 : tie.Need-slice-aggregate-regroup-2
+slice-aggregate-regroup-2 c = search needs
+
+regroup-requires : tie.Need-regroup-requires
+regroup-requires c κs =
+    again-ready (c .before .before .before .before .before .before .before .before .before .before .before .join .ensures)
+    (c .before .before .before .before .before .before .before .joined .given .1)
+    (c .before .before .before .before .before .before .before .before .before .before .before .before .before .before .before .before .before .pre)
+    (c .before .before .before .before .before .before .before .before .before .before .before .join .kept .0)
+    (c .before .before .before .before .write-again .ensures) _ refl
+
+last-requires : tie.Need-last-requires
+last-requires c κs = search needs
+
+same-length-2 : tie.Need-same-length-2
+same-length-2 c = search needs
+
+returns-2 : tie.Need-returns-2
+returns-2 c =
+    again-ended (c .before .before .before .before .before .before .before .before .before .before .before .before .before .before .before .join .ensures)
+    (c .before .before .before .before .before .before .before .before .before .before .before .joined .given .1)
+    (c .before .before .before .before .before .before .before .before .before .before .before .before .before .before .before .before .before .before .before .before .before .pre)
+    (c .before .before .before .before .before .before .before .before .before .before .before .before .before .before .before .join .kept .0)
+    (c .before .before .before .before .before .before .before .before .write-again .ensures) _
+    refl (c .before .before .before .regroup .kept .0)
+    (c .before .before .before .regroup .ensures) (c .last .ensures)
+
+pub joined-group-spec : {M : Type 1} → statement M
+joined-group-spec =
+    tie.close
+    (tie.spec
+    join-requires
+    enum-known-joined
+    enum-told
+    same-length
+    returns
+    slice-aggregate-write-again
+    write-again-requires
+    slice-aggregate-regroup
+    slice-aggregate-regroup-2
+    regroup-requires
+    last-requires
+    same-length-2
+    returns-2)

@@ -1,0 +1,128 @@
+-- The join of two arrays, grouped again, comes to what the regrouping gives of the joined trees.
+use mathlib.Core.Path.{_≡_, sym, ap, ap₂, subst, _∙_}
+use mathlib.Core.List.{List, [], _++_, map}
+use Prim.Native.Nat.{ℕ, _≤_}
+use native.Mathlib.Omega.{arith}
+use lib.ListN.{length, drop}
+use lib.Seq.{take-all}
+use Rattle.spec_trees.specs.ListLaws.{All-append}
+use Rattle.spec_trees.specs.Tree.{Tree}
+use Rattle.spec_trees.specs.Bytes.{bytes, treeFs, arrayBytes}
+use Rattle.spec_trees.specs.Within.{Within}
+use Rattle.spec_queries.specs.Query.{Pair}
+use Rattle.spec_queries.specs.Again.{again}
+use Rattle.spec_queries.specs.RegroupingLaws.{ok-again, group-short}
+use Rattle.spec_stages.specs.Stages.{stages}
+use Rattle.spec_stages.specs.LeaveLaws.{group-step, group-long}
+use Rattle.spec_stages.specs.Stretch.{before}
+use Rattle.areas.specs.Area.{Is, Wrote, span}
+use Rattle.areas.specs.AreaLaws.{written}
+use Rattle.areas.specs.declared.area.Out.{Out}
+use Rattle.areas.specs.declared.area.Out.the-variants.{At, TooLarge}
+use Rattle.queries.specs.Places.{arrayTrees, Pairs}
+use Rattle.queries.specs.TreesLaws.{array-reads}
+use Rattle.queries.specs.declared.stage.GroupAt.{GroupAt}
+use Rattle.paths.specs.ComparedLaws.{is-none, trees-append}
+use Rattle.stream.specs.Map.{treesMax}
+use Rattle.stream.specs.Feed.{Planned}
+use Rattle.stream.specs.declared.collector.Collector.{Collector}
+use Rattle.stretches.specs.declared.ended.Ended.{Ended}
+use Rattle.stretches.specs.declared.next.StretchAt.{StretchAt}
+use Rattle.stretches.specs.Ended.{EndedIs}
+use Rattle.stretches.specs.Next.{stretchAt}
+use Rattle.stretches.specs.Stretch.{Gathered, GroupReady, GroupPost, through}
+use Rattle.stretches.specs.Later.{LastPost}
+use Rattle.stretches.specs.LaterLaws.{size-is, ends-long}
+use Rattle.trays.specs.Again.{GroupRoom, GroupWritten}
+use Rattle.regrouping.specs.JoinedGroup.{RegroupReady, Regroups}
+
+-- a group behind which no stage stands
+abbrev pub nowhere : GroupAt → StretchAt
+nowhere g = stretchAt g (span (g .keys .to) (g .keys .to))
+
+-- ---- the joined trees
+-- an array's bytes behind its head are its trees
+trees-of : (s : List ℕ) (ts : List Tree) → s ≡ arrayBytes ts → drop 3 s ≡ arrayTrees ts
+trees-of s ts e = ap (drop 3) (sym (take-all (length s) s (omega arith))) ∙ array-reads s ts e .lies
+
+pub head-inside : (s : List ℕ) (ts : List Tree) → s ≡ arrayBytes ts → 3 ≤ length s
+head-inside s ts e = omega (arith, array-reads s ts e .ends)
+
+module _ {a b w x : List ℕ} {r : Out} (k : Wrote w x 0 treesMax (drop 3 a ++ drop 3 b) r) where
+  joined : (ts us : List Tree) → a ≡ arrayBytes ts → b ≡ arrayBytes us → Wrote w x 0 treesMax (arrayTrees (ts ++ us)) r
+  joined ts us ea eb = subst (λ l. Wrote w x 0 treesMax l r) (ap₂ _++_ (trees-of a ts ea) (trees-of b us eb) ∙ sym (trees-append ts us)) k
+
+  -- more than an array may have
+  pub joined-long : {q : List ℕ} {at : GroupAt} → r ≡ TooLarge → Regroups q at a b x Ended.Long
+  unfolding stages
+  joined-long z ag gs ts us p d ea oa eb ob =
+      ends-long x (group-long [] (map again ag) (map again gs) (ts ++ us) (omega (arith, joined ts us ea eb .large z .over, size-is (ts ++ us))))
+
+  module _ {n : ℕ} (z : r ≡ At n) where
+    gathered : (ts us : List Tree) → a ≡ arrayBytes ts → Within ts → b ≡ arrayBytes us → Within us → Gathered x n (ts ++ us)
+    gathered ts us ea oa eb ob = record {
+      allowed = All-append _ ts us (oa .allowed) (ob .allowed);
+      trees-is = written (joined ts us ea eb) (omega arith) z;
+    }
+
+    joined-short : (ts us : List Tree) → a ≡ arrayBytes ts → b ≡ arrayBytes us → n ≤ treesMax
+    joined-short ts us ea eb = joined ts us ea eb .fits n z .room
+
+    -- ---- its group, by the pairs that were written to s
+    module _ {q : List ℕ} {at : GroupAt} (h : RegroupReady q at a b w) (l : length x ≡ length w)
+        {s : List ℕ} {g : GroupAt} (i : GroupWritten s q at g) where
+      pairs-of : (ag gs : List Pair) → Pairs q at ag gs → Pairs s g (map again ag) (map again gs)
+      pairs-of ag gs p =
+          let c = i ag gs (p .aggregates-is) (p .grouping-is) in
+          record {
+            aggregates-ok = ok-again _ ag (p .aggregates-ok);
+            aggregates-is = c .aggregates-is;
+            grouping-ok = ok-again _ gs (p .grouping-ok);
+            grouping-is = c .grouping-is;
+          }
+
+      planned-of : (j : List ℕ) → length j ≡ 3 → Planned s (span (g .keys .to) (g .keys .to)) j [] []
+      unfolding bytes treeFs
+      planned-of j e =
+          let c = i (h .aggregates) (h .grouping) (h .pairs .aggregates-is) (h .pairs .grouping-is) in
+          record {
+            stages-ok = tt;
+            stages-is = is-none (c .grouping-is .inside);
+            joined-ok = tt;
+            joined-is = subst (λ m. Is j 3 m (arrayTrees [])) (sym e) (is-none (omega arith));
+          }
+
+      pub again-ready : (j : List ℕ) → length j ≡ 3 → GroupReady x n s (nowhere g) j
+      unfolding before
+      again-ready j e = record {
+        aggregates = map again (h .aggregates);
+        grouping = map again (h .grouping);
+        pairs = pairs-of (h .aggregates) (h .grouping) (h .pairs);
+        trees = h .first ++ h .second;
+        gathered = gathered (h .first) (h .second) (h .first-is) (h .first-ok) (h .second-is) (h .second-ok);
+        short = joined-short (h .first) (h .second) (h .first-is) (h .second-is);
+        list = [];
+        joined = [];
+        planned = planned-of j e;
+        room = omega (arith, h .size);
+        small = omega (arith, h .size);
+      }
+
+      pub again-ended : (j : List ℕ) → length j ≡ 3 → {v : List ℕ} {c : Collector} {o : Ended} → length v ≡ length x → GroupPost x v n s (nowhere g) j c → LastPost c o
+          → Regroups q at a b v o
+      unfolding stages through before
+      again-ended j e {v} {c} {o} m f last ag gs ts us p d ea oa eb ob =
+          let shown = f (map again ag) (map again gs) (ts ++ us) [] [] (pairs-of ag gs p) (gathered ts us ea oa eb ob) (planned-of j e) in
+          let same = group-step [] (map again ag) (map again gs) (ts ++ us) (omega (arith, size-is (ts ++ us), gathered ts us ea oa eb ob .trees-is .ends, joined-short ts us ea eb)) in
+          subst (EndedIs v o) (sym same) (last v _ (omega (arith, h .size)) shown)
+
+-- ---- there is room for the pairs
+pub pairs-fit : {q : List ℕ} {at : GroupAt} {a b w : List ℕ} (s : List ℕ) → length s ≡ 192 → RegroupReady q at a b w → GroupRoom s q at
+pairs-fit s e h = record {
+  aggregates = h .aggregates;
+  aggregates-is = h .pairs .aggregates-is;
+  grouping = h .grouping;
+  grouping-is = h .pairs .grouping-is;
+  room = omega (arith, group-short (h .aggregates) (h .grouping) (h .distinct), h .pairs .aggregates-ok .1, h .pairs .grouping-ok .1);
+  small = omega arith;
+}

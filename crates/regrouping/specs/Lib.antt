@@ -1,0 +1,5 @@
+-- Definitions.
+pub mod JoinedGroup
+-- Laws.
+pub mod JoinLaws
+pub mod JoinedGroupLaws

@@ -1,0 +1,37 @@
+//! The group of a regrouping, over the join of two arrays.
+ghost use Rattle.regrouping.specs.JoinedGroup.{RegroupReady, Regroups};
+use crate::join::join;
+use areas::area::Out;
+use areas::span::Span;
+use queries::stage::GroupAt;
+use stretches::ended::Ended;
+use stretches::group_stretch;
+use stretches::later::last;
+use stretches::next::StretchAt;
+use trays::again::write_again;
+
+/// The regrouping of a tray group over the join of two arrays, in a work area of 65,536 bytes. Its pairs take at most
+/// 16 bytes each, and are 12 at most; no stage stands behind them, and no joined array is asked.
+pub fn joined_group<'a>(
+    query: &'a [u8],
+    group: GroupAt,
+    first: &'a [u8],
+    second: &'a [u8],
+    work: &mut [u8],
+) -> Ended
+    requires { ⌜ RegroupReady (now query) group (now first) (now second) (now work) ⌝ }
+    ensures { λ r. ⌜ Regroups (now (query .entry)) group (now (first .entry)) (now (second .entry)) (now (work .exit)) r ⌝ }
+{
+    let joined = join(work, first, second);
+    let Out::At(len) = joined else {
+        return Ended::Long;
+    };
+    let mut pairs = [0u8; 192];
+    let again = write_again(&mut pairs, query, group);
+    let end = again.keys.to;
+    let at = StretchAt {
+        group: again,
+        next: Span { from: end, to: end },
+    };
+    last(group_stretch::regroup(work, len, &pairs, at, b"\x01\x00\x00"))
+}

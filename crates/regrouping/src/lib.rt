@@ -1,0 +1,3 @@
+//! Two arrays joined and grouped again.
+pub mod join;
+pub mod joined_group;
