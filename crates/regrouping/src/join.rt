@@ -1,8 +1,7 @@
 //! The join of two arrays.
-ghost use Prim.Native.Nat.{_≤_};
-ghost use lib.ListN.{length};
 ghost use mathlib.Core.List.{_++_};
-ghost use lib.ListN.{drop};
+ghost use Prim.Native.Nat.{_≤_};
+ghost use lib.ListN.{length, drop};
 ghost use Rattle.stream.specs.Map.{treesMax};
 ghost use Rattle.areas.specs.Area.{Wrote};
 use areas::area::Out;
