@@ -1,6 +1,7 @@
--- The tests of a run by the answers of the checks, in their order.
+-- The tests of a run by the answers of the checks, in their order; and what a refusal by tests means for every call.
+use mathlib.Core.Path.{_≡_}
 use mathlib.Core.List.{List}
-use mathlib.Core.Bool.{cond}
+use mathlib.Core.Bool.{true, cond}
 use Prim.Native.Nat.{ℕ}
 use lib.Dec.{leb}
 use Rattle.spec_trees.specs.Limits.{workMin}
@@ -11,7 +12,8 @@ use Rattle.format.specs.Check.{checkOf}
 use Rattle.spec_queries.specs.Decode.{readQuery}
 use Rattle.spec_run.specs.declared.answer.Refusal.{Refusal}
 use Rattle.spec_run.specs.declared.answer.Refusal.the-variants.{WorkShort, QueryLong, QueryMalformed, InputLong, InputMalformed, JoinedLong, JoinedMalformed}
-use Rattle.spec_run.specs.Refusal.{numberOf}
+use Rattle.spec_run.specs.Refusal.{numberOf, keepsResult}
+use Rattle.spec_run.specs.Run.{Verdict, refused}
 use Rattle.checks.specs.declared.check.CallCheck.{CallCheck}
 use Rattle.checks.specs.declared.check.CallCheck.the-variants.{Passed, Refused}
 
@@ -43,3 +45,8 @@ arraysCheck a b r s = next (decided (checkOf (readArray a)) InputLong InputMalfo
 -- query, input, joined array, the length of the work area
 unfoldable pub callCheck : List ℕ → List ℕ → List ℕ → ℕ → CallCheck
 callCheck q i j work = next (preparedCheck q work) (arraysCheck i j JoinedLong JoinedMalformed)
+
+-- what a call that is refused by its tests comes to: the plain answer is refused so, and the result area is left as it was
+pub record Early (x : Verdict) (r : Refusal) : Type 0 where
+  pub refuses : x ≡ refused r
+  pub keeps : keepsResult r ≡ true

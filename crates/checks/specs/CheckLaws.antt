@@ -23,8 +23,7 @@ use Rattle.spec_run.specs.Run.{Call, Verdict, refused, reading, final, verdictO
 use Rattle.spec_run.specs.RunLaws.{Reads}
 use Rattle.checks.specs.declared.check.CallCheck.{CallCheck}
 use Rattle.checks.specs.declared.check.CallCheck.the-variants.{Passed, Refused}
-use Rattle.checks.specs.Check.{decided, checkedAs, next, preparedCheck, arraysCheck, callCheck}
-use Rattle.checks.specs.RegroupCheck.{Early}
+use Rattle.checks.specs.Check.{decided, checkedAs, next, preparedCheck, arraysCheck, callCheck, Early}
 
 -- ---- the code's tests, one after another
 module _ (q : List ℕ) (work : ℕ) where

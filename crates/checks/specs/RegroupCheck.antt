@@ -1,7 +1,6 @@
 -- What the tests of the regrouping call say: what it has read, or the refusal.
 use mathlib.Core.Path.{_≡_}
 use mathlib.Core.List.{List}
-use mathlib.Core.Bool.{true}
 use Prim.Native.Nat.{ℕ, _≤_}
 use Rattle.spec_trees.specs.Limits.{workMin}
 use Rattle.spec_trees.specs.Tree.{Tree}
@@ -14,15 +13,10 @@ use Rattle.queries.specs.declared.stage.GroupAt.{GroupAt}
 use Rattle.trays.specs.TrayGroup.{IsTrayGroup}
 use Rattle.spec_run.specs.declared.answer.Refusal.{Refusal}
 use Rattle.spec_run.specs.declared.answer.Refusal.the-variants.{QueryMalformed, InputLong, InputMalformed}
-use Rattle.spec_run.specs.Refusal.{keepsResult}
-use Rattle.spec_run.specs.Run.{Verdict, refused, reading}
+use Rattle.spec_run.specs.Run.{Verdict, reading}
 use Rattle.spec_run.specs.Regroup.{asking, regroupVerdictOf}
 use Rattle.checks.specs.declared.check.RegroupCheck.{RegroupCheck}
-
--- the plain answer is refused so, and the result area is left as it was
-pub record Early (x : Verdict) (r : Refusal) : Type 0 where
-  pub refuses : x ≡ refused r
-  pub keeps : keepsResult r ≡ true
+use Rattle.checks.specs.Check.{Early}
 
 -- the query is read as a tray group alone whose pairs stand there, and the arrays as these trees
 pub record Read (q a b : List ℕ) (at : GroupAt) : Type 0 where

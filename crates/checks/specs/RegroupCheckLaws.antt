@@ -26,8 +26,8 @@ use Rattle.spec_run.specs.Regroup.{asking, regroupVerdictOf}
 use Rattle.checks.specs.declared.check.CallCheck.{CallCheck}
 use Rattle.checks.specs.declared.check.CallCheck.the-variants.{Passed, Refused}
 use Rattle.checks.specs.declared.check.RegroupCheck.{RegroupCheck}
-use Rattle.checks.specs.Check.{next, preparedCheck, arraysCheck}
-use Rattle.checks.specs.RegroupCheck.{Early, Read, bothRead, tested, TraysCheck, RegroupChecked}
+use Rattle.checks.specs.Check.{next, preparedCheck, arraysCheck, Early}
+use Rattle.checks.specs.RegroupCheck.{Read, bothRead, tested, TraysCheck, RegroupChecked}
 use Rattle.checks.specs.CheckLaws.{prepared-read, prepared-refused, arrays-read, arrays-refused}
 
 -- ---- answers, by their one constructor

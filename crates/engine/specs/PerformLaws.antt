@@ -24,8 +24,7 @@ use Rattle.spec_run.specs.Run.{Call, Verdict, verdict, numberIn, lengthIn, resu
 use Rattle.spec_run.specs.RunLaws.{reads-verdict}
 use Rattle.spec_run.specs.Answer.{numbered, lengthened, Answered, AnswersAs}
 use Rattle.spec_run.specs.AnswerLaws.{AnsweredBy, by-run}
-use Rattle.checks.specs.Check.{callCheck}
-use Rattle.checks.specs.RegroupCheck.{Early}
+use Rattle.checks.specs.Check.{callCheck, Early}
 use Rattle.checks.specs.CheckLaws.{passed-reads, refused-early}
 use Rattle.engine.specs.Finish.{FinishReady, Finishes}
 use Rattle.engine.specs.Perform.{Performs}

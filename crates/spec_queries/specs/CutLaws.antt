@@ -1,6 +1,6 @@
 -- Both parts of a query that the rules allow are allowed, wherever it is cut.
-use mathlib.Core.Path.{_≡_, refl, ap, _∙_}
-use mathlib.Core.List.{List, [], _∷_, _++_, map}
+use mathlib.Core.Path.{_≡_, ap, _∙_}
+use mathlib.Core.List.{List, _++_, map, map-append}
 use mathlib.Core.Option.{some}
 use Prim.Native.Nat.{_+_}
 use native.Mathlib.Omega.{arith}
@@ -13,10 +13,6 @@ use Rattle.spec_queries.specs.Bytes.{stageF, queryF, queryBytes}
 use Rattle.spec_queries.specs.Decode.{decodeQuery}
 use Rattle.spec_queries.specs.Rules.{OkS, OkQ}
 use Rattle.spec_queries.specs.QueryLaws.{query-back}
-
-map-append : {A B : Type 0} (f : A → B) (a b : List A) → map f (a ++ b) ≡ map f a ++ map f b
-map-append f [] b = refl
-map-append f (x ∷ a) b = ap (λ y. f x ∷ y) (map-append f a b)
 
 -- the bytes of the stages, without the query's head
 length-query : (ss : List Stage) → length (queryBytes ss) ≡ 3 + length (bytes (map stageF ss))

@@ -47,9 +47,21 @@ impl Case {
     fn verdict(&self) -> Option<Verdict> {
         decide(&self.query, &self.input, &self.joined, self.work_length, self.result_length, MOST_TREES)
     }
+}
 
-    fn within_longest(&self) -> bool {
-        [&self.query, &self.input, &self.joined].iter().all(|bytes| bytes.len() <= LONGEST)
+impl Lent for Case {
+    fn areas(&mut self) -> [&mut Vec<u8>; 3] {
+        [&mut self.query, &mut self.input, &mut self.joined]
+    }
+}
+
+/// A case of any call, by the areas that it is lent to read: a query and two arrays.
+trait Lent: Sized {
+    fn areas(&mut self) -> [&mut Vec<u8>; 3];
+
+    /// The case, if none of them is longer than a case may have.
+    fn within_longest(mut self) -> Option<Self> {
+        self.areas().iter().all(|bytes| bytes.len() <= LONGEST).then_some(self)
     }
 }
 
@@ -69,7 +81,7 @@ impl Draft {
         let query = encode_query(&self.stages)?;
         let (input, joined) = (encode_array(&self.input)?, encode_array(&self.joined)?);
         let case = Case { query, input, joined, work_length: WORK_LEAST, result_length: ARRAY_LIMIT };
-        case.within_longest().then_some(case)
+        case.within_longest()
     }
 }
 
@@ -89,7 +101,7 @@ impl Iterator for Cases {
 
     fn next(&mut self) -> Option<(Case, Verdict)> {
         loop {
-            let drawn = draw_case(&mut self.random).and_then(|case| in_areas(&mut self.random, case));
+            let drawn = of_kinds(&mut self.random, &KINDS).and_then(|case| in_areas(&mut self.random, case));
             if drawn.is_some() {
                 return drawn;
             }
@@ -97,10 +109,11 @@ impl Iterator for Cases {
     }
 }
 
-type Kind = fn(&mut Random) -> Option<Case>;
+/// A kind of cases.
+type Kind<C> = fn(&mut Random) -> Option<C>;
 
 /// The kinds of cases, and how often each is drawn, in thousand.
-const KINDS: [(usize, Kind); 18] = [
+const KINDS: [(usize, Kind<Case>); 18] = [
     (300, |random| ordinary(random).case()),
     (90, |random| groups(random).case()),
     (70, |random| lookups(random).case()),
@@ -121,11 +134,12 @@ const KINDS: [(usize, Kind); 18] = [
     (20, |random| short_work(random)),
 ];
 
-fn draw_case(random: &mut Random) -> Option<Case> {
-    let mut left = random.below(KINDS.iter().map(|(weight, _)| weight).sum());
-    for (weight, kind) in KINDS {
-        if left < weight {
-            return kind(random).filter(Case::within_longest);
+/// A case of one of the kinds, each drawn as often as its weight says.
+fn of_kinds<C: Lent>(random: &mut Random, kinds: &[(usize, Kind<C>)]) -> Option<C> {
+    let mut left = random.below(kinds.iter().map(|(weight, _)| weight).sum());
+    for (weight, kind) in kinds {
+        if left < *weight {
+            return kind(random)?.within_longest();
         }
         left -= weight;
     }
@@ -541,12 +555,37 @@ fn products(random: &mut Random) -> Draft {
 // Kinds of cases that are mostly refused
 
 /// One area of a case.
-fn any_area<'a>(random: &mut Random, case: &'a mut Case) -> &'a mut Vec<u8> {
+fn any_area<'a>(random: &mut Random, case: &'a mut impl Lent) -> &'a mut Vec<u8> {
+    let [query, first, second] = case.areas();
     match random.below(3) {
-        0 => &mut case.query,
-        1 => &mut case.input,
-        _ => &mut case.joined,
+        0 => query,
+        1 => first,
+        _ => second,
     }
+}
+
+/// The case with bytes of one area changed, wherever they stand.
+fn blindly<C: Lent>(random: &mut Random, mut case: C) -> C {
+    let area = any_area(random, &mut case);
+    *area = damage::blind(random, area);
+    case
+}
+
+/// The case with a field of one area changed.
+fn by_field<C: Lent>(random: &mut Random, mut case: C) -> C {
+    let area = any_area(random, &mut case);
+    *area = damage::fielded(random, area);
+    case
+}
+
+/// The case with random bytes in one area, at times behind a right head.
+fn with_random_bytes<C: Lent>(random: &mut Random, mut case: C) -> Option<C> {
+    let area = any_area(random, &mut case);
+    let tag = area[0];
+    let length = random.pick(&[0, 1, 2, 3, 4, 8, 30, 300]);
+    let content = random.bytes(length);
+    *area = if random.chance(50) { crate::bytes::field(tag, &content)? } else { content };
+    Some(case)
 }
 
 /// An accepted kind of case, as bytes.
@@ -560,28 +599,18 @@ fn sound(random: &mut Random) -> Option<Case> {
 }
 
 fn blind_damage(random: &mut Random) -> Option<Case> {
-    let mut case = sound(random)?;
-    let area = any_area(random, &mut case);
-    *area = damage::blind(random, area);
-    Some(case)
+    let case = sound(random)?;
+    Some(blindly(random, case))
 }
 
 fn field_damage(random: &mut Random) -> Option<Case> {
-    let mut case = sound(random)?;
-    let area = any_area(random, &mut case);
-    *area = damage::fielded(random, area);
-    Some(case)
+    let case = sound(random)?;
+    Some(by_field(random, case))
 }
 
-/// Random bytes in one area, at times behind a right head.
 fn random_bytes(random: &mut Random) -> Option<Case> {
-    let mut case = sound(random)?;
-    let area = any_area(random, &mut case);
-    let tag = area[0];
-    let length = random.pick(&[0, 1, 2, 3, 4, 8, 30, 300]);
-    let content = random.bytes(length);
-    *area = if random.chance(50) { crate::bytes::field(tag, &content)? } else { content };
-    Some(case)
+    let case = sound(random)?;
+    with_random_bytes(random, case)
 }
 
 /// Faults in several places at once, for the order of the tests.

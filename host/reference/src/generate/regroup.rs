@@ -6,9 +6,9 @@
 
 use super::day::{group_of, such_group, tray};
 use super::random::Random;
-use super::{around_limit, damage, draw, near, short_length, some_trees, with_fault};
-use super::{LONGEST, LONGEST_WORK};
-use crate::bytes::{encode_array, encode_query, field};
+use super::{around_limit, blindly, by_field, draw, near, of_kinds, short_length, some_trees, with_fault};
+use super::{with_random_bytes, Kind, Lent, LONGEST, LONGEST_WORK};
+use crate::bytes::{encode_array, encode_query};
 use crate::bytes::{AGGREGATES_LIMIT, GROUPING_LIMIT, QUERY_LIMIT};
 use crate::regroup::decide_regroup;
 use crate::run::{Verdict, WORK_LEAST};
@@ -29,9 +29,11 @@ impl RegroupCase {
     fn verdict(&self) -> Verdict {
         decide_regroup(&self.query, &self.first, &self.second, self.work_length, self.result_length)
     }
+}
 
-    fn within_longest(&self) -> bool {
-        [&self.query, &self.first, &self.second].iter().all(|bytes| bytes.len() <= LONGEST)
+impl Lent for RegroupCase {
+    fn areas(&mut self) -> [&mut Vec<u8>; 3] {
+        [&mut self.query, &mut self.first, &mut self.second]
     }
 }
 
@@ -51,7 +53,7 @@ impl Draft {
         let query = encode_query(&self.stages)?;
         let (first, second) = (encode_array(&self.first)?, encode_array(&self.second)?);
         let case = RegroupCase { query, first, second, work_length: WORK_LEAST, result_length: ARRAY_LIMIT };
-        case.within_longest().then_some(case)
+        case.within_longest()
     }
 }
 
@@ -71,17 +73,15 @@ impl Iterator for RegroupCases {
 
     fn next(&mut self) -> Option<(RegroupCase, Verdict)> {
         loop {
-            if let Some(case) = draw_case(&mut self.random) {
+            if let Some(case) = of_kinds(&mut self.random, &KINDS) {
                 return Some(in_areas(&mut self.random, case));
             }
         }
     }
 }
 
-type Kind = fn(&mut Random) -> Option<RegroupCase>;
-
 /// The kinds of cases, and how often each is drawn, in thousand.
-const KINDS: [(usize, Kind); 14] = [
+const KINDS: [(usize, Kind<RegroupCase>); 14] = [
     (300, |random| results(random)?.case()),
     (150, |random| any_arrays(random).case()),
     (60, |random| counts(random).case()),
@@ -97,17 +97,6 @@ const KINDS: [(usize, Kind); 14] = [
     (40, |random| several_faults(random)),
     (15, |random| short_work(random)),
 ];
-
-fn draw_case(random: &mut Random) -> Option<RegroupCase> {
-    let mut left = random.below(KINDS.iter().map(|(weight, _)| weight).sum());
-    for (weight, kind) in KINDS {
-        if left < weight {
-            return kind(random).filter(RegroupCase::within_longest);
-        }
-        left -= weight;
-    }
-    unreachable!("a number is below the sum of the weights")
-}
 
 /// Gives a case its areas. Some result areas are measured by the result: just
 /// long enough, or one byte too short.
@@ -251,43 +240,24 @@ fn tree_limits(random: &mut Random) -> Draft {
 
 // Kinds of cases that are mostly refused
 
-/// One area of a case.
-fn any_area<'a>(random: &mut Random, case: &'a mut RegroupCase) -> &'a mut Vec<u8> {
-    match random.below(3) {
-        0 => &mut case.query,
-        1 => &mut case.first,
-        _ => &mut case.second,
-    }
-}
-
 /// An accepted kind of case, as bytes.
 fn sound(random: &mut Random) -> Option<RegroupCase> {
     if random.chance(50) { results(random)? } else { any_arrays(random) }.case()
 }
 
 fn blind_damage(random: &mut Random) -> Option<RegroupCase> {
-    let mut case = sound(random)?;
-    let area = any_area(random, &mut case);
-    *area = damage::blind(random, area);
-    Some(case)
+    let case = sound(random)?;
+    Some(blindly(random, case))
 }
 
 fn field_damage(random: &mut Random) -> Option<RegroupCase> {
-    let mut case = sound(random)?;
-    let area = any_area(random, &mut case);
-    *area = damage::fielded(random, area);
-    Some(case)
+    let case = sound(random)?;
+    Some(by_field(random, case))
 }
 
-/// Random bytes in one area, at times behind a right head.
 fn random_bytes(random: &mut Random) -> Option<RegroupCase> {
-    let mut case = sound(random)?;
-    let area = any_area(random, &mut case);
-    let tag = area[0];
-    let length = random.pick(&[0, 1, 2, 3, 4, 8, 30, 300]);
-    let content = random.bytes(length);
-    *area = if random.chance(50) { field(tag, &content)? } else { content };
-    Some(case)
+    let case = sound(random)?;
+    with_random_bytes(random, case)
 }
 
 /// Faults in several places at once, for the order of the tests.
