@@ -25,7 +25,7 @@ use Rattle.data.specs.Value.{WroteFound, isLarge, endOf, foundOf, answerOf, bef
 use Rattle.data.specs.ValueLaws.{value-absent, value-keep, value-end, value-next, value-stop, value-done}
 use Rattle.data.specs.Write.{WalkReady}
 use Rattle.group.specs.Members.{MembersReady, WroteMember, MembersFrom, WroteMembers}
-use Rattle.spec_stages.specs.AlikeLaws.{alike-self}
+use Rattle.spec_stages.specs.AlikeLaws.{alike-equivalence}
 use Rattle.queries.specs.TreesLaws.{array-parts, array-none, array-before, array-first, array-rest}
 
 -- ---- one tree
@@ -144,4 +144,4 @@ module _ {w q : List ℕ} {g ge : ℕ} {p : Span} {x xe b d stop : ℕ} where
   unfolding filter over join
   members-whole v r k gs path t ts hg hp ot ht os hs =
       let j = k gs path t (t ∷ ts) hg hp ot ht (ot, os) (array-before t ts ht hs) in
-      subst (λ i. WroteFound w v d stop (joins (map (apply path) (cond i (t ∷ filter (alike gs t) ts) (filter (alike gs t) ts)))) r) (alike-self gs t) j
+      subst (λ i. WroteFound w v d stop (joins (map (apply path) (cond i (t ∷ filter (alike gs t) ts) (filter (alike gs t) ts)))) r) (alike-equivalence gs .self t) j

@@ -14,6 +14,7 @@ use Rattle.spec_queries.specs.Query.{Pair}
 use Rattle.spec_stages.specs.Paths.{Given, present, apply}
 use Rattle.spec_stages.specs.Equality.{sameGiven}
 use Rattle.spec_stages.specs.Group.{key, sameKey, alike, sum}
+use Rattle.spec_stages.specs.Equivalence.{Equivalence}
 use Rattle.spec_stages.specs.EqualityLaws.{same-given}
 
 equal-keys : (xs ys : List Given) → sameKey xs ys ≡ true → xs ≡ ys
@@ -32,15 +33,17 @@ key-itself (x ∷ xs) = ap₂ _&&_ (same-given x x .1 refl) (key-itself xs)
 pub same-key : (xs ys : List Given) → (sameKey xs ys ≡ true) ↔ (xs ≡ ys)
 same-key xs ys = (equal-keys xs ys, λ z. ap (sameKey xs) (sym z) ∙ key-itself xs)
 
--- a tree is like itself
-pub alike-self : (gs : List Pair) (t : Tree) → alike gs t t ≡ true
+-- what is made of the key alone is equal for trees that are alike: their subset of pairs, or a number for a search
+pub alike-keys : {B : Type 0} (f : List Given → B) (gs : List Pair) (t u : Tree) → alike gs t u ≡ true → f (key gs t) ≡ f (key gs u)
 unfolding alike
-alike-self gs t = key-itself (key gs t)
+alike-keys f gs t u e = ap f (equal-keys (key gs t) (key gs u) e)
 
--- trees that are alike have the same sources present
-pub alike-sum : (gs : List Pair) (t u : Tree) → alike gs t u ≡ true → sum (key gs t) ≡ sum (key gs u)
+pub alike-equivalence : (gs : List Pair) → Equivalence (alike gs)
 unfolding alike
-alike-sum gs t u e = ap sum (equal-keys (key gs t) (key gs u) e)
+alike-equivalence gs = record {
+  self = λ t. key-itself (key gs t);
+  same = λ t u h z. ap (λ k. sameKey k (key gs z)) (equal-keys (key gs t) (key gs u) h);
+}
 
 -- the sums of n pairs lie below 2 to the power n
 pub sum-below : (gs : List Pair) (t : Tree) → sum (key gs t) < 2 ^ length gs

@@ -13,7 +13,7 @@ use Rattle.spec_trees.specs.Tree.{Tree}
 use Rattle.spec_queries.specs.Query.{Pair}
 use Rattle.spec_stages.specs.Group.{key, alike, sum, having, classes, upto, grouped}
 use Rattle.spec_stages.specs.Classes.{unlike, begins, scan}
-use Rattle.spec_stages.specs.AlikeLaws.{alike-sum}
+use Rattle.spec_stages.specs.AlikeLaws.{alike-keys}
 
 -- ---- booleans
 and-last : (a b : Bool) → (b && a) ≡ (a && (b && true))
@@ -38,7 +38,7 @@ module _ (gs : List Pair) (m : ℕ) where
 
   -- the same of two trees that are alike
   same-subset : (t u : Tree) → alike gs t u ≡ true → inSubset t ≡ inSubset u
-  same-subset t u e = ap (λ n. eqb n m) (alike-sum gs t u e)
+  same-subset t u e = ap (λ n. eqb n m) (alike-keys sum gs t u e)
 
   -- the others like a tree of the subset are of the subset
   others : (t : Tree) → inSubset t ≡ true → (ts : List Tree) → filter (alike gs t) (filter inSubset ts) ≡ filter (alike gs t) ts

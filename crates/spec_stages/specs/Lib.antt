@@ -15,6 +15,10 @@ pub mod Classes
 pub mod MergeTwo
 pub mod Keys
 pub mod Trays
+pub mod Equivalence
+pub mod Permutes
+pub mod Sums
+pub mod Flat
 -- Laws.
 pub mod DecisionLaws
 pub mod EqualityLaws
@@ -28,9 +32,13 @@ pub mod UnwoundLaws
 pub mod StageLaws
 pub mod StretchLaws
 pub mod LeaveLaws
+pub mod EquivalenceLaws
 pub mod AlikeLaws
 pub mod ClassesLaws
 pub mod OnceLaws
+pub mod PermutesLaws
+pub mod SumsLaws
+pub mod GroupedLaws
 pub mod KeysLaws
 pub mod ReadLaws
 pub mod RegroupLaws

@@ -28,10 +28,15 @@ module _ {A : Type 0} where
       go true e = e
       go false e = refl
 
-  filter-same : (f g : A → Bool) → ((x : A) → f x ≡ g x) → (xs : List A) → filter f xs ≡ filter g xs
+  pub filter-same : (f g : A → Bool) → ((x : A) → f x ≡ g x) → (xs : List A) → filter f xs ≡ filter g xs
   unfolding filter
   filter-same f g h [] = refl
   filter-same f g h (x ∷ xs) = rw (h x, filter-same f g h xs) refl
+
+  pub all-same : (f g : A → Bool) → ((x : A) → f x ≡ g x) → (xs : List A) → all f xs ≡ all g xs
+  unfolding all
+  all-same f g h [] = refl
+  all-same f g h (x ∷ xs) = ap₂ _&&_ (h x) (all-same f g h xs)
 
   -- a test with one answer passes all or nothing
   pub filter-constant : (f : A → Bool) (b : Bool) (xs : List A) → All (λ x. f x ≡ b) xs → filter f xs ≡ cond b xs []
@@ -101,6 +106,11 @@ module _ {A B : Type 0} where
       go true ys = refl
       go false ys = refl
 
+  pub all-map : (f : B → Bool) (g : A → B) (xs : List A) → all f (map g xs) ≡ all (λ x. f (g x)) xs
+  unfolding all
+  all-map f g [] = refl
+  all-map f g (x ∷ xs) = ap (λ b. f (g x) && b) (all-map f g xs)
+
   pub filter-gather : (f : B → Bool) (g : A → List B) (xs : List A) → filter f (gather g xs) ≡ gather (λ x. filter f (g x)) xs
   unfolding filter gather
   filter-gather f g [] = refl
@@ -112,6 +122,11 @@ module _ {A B C : Type 0} where
   unfolding gather
   map-gather f g [] = refl
   map-gather f g (x ∷ xs) = map-append f (g x) (gather g xs) ∙ ap (λ l. map f (g x) ++ l) (map-gather f g xs)
+
+  pub gather-gather : (f : B → List C) (g : A → List B) (xs : List A) → gather f (gather g xs) ≡ gather (λ x. gather f (g x)) xs
+  unfolding gather
+  gather-gather f g [] = refl
+  gather-gather f g (x ∷ xs) = gather-append f (g x) (gather g xs) ∙ ap (λ l. gather f (g x) ++ l) (gather-gather f g xs)
 
   pub each-map : (f : B → Option C) (g : A → B) (xs : List A) → each f (map g xs) ≡ each (λ x. f (g x)) xs
   unfolding each

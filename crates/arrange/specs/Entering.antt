@@ -1,0 +1,63 @@
+-- What the entering of one tree into the index does, in the terms of the code.
+use mathlib.Core.Path.{_≡_}
+use mathlib.Core.List.{List, _∷_, [], _++_, reverse}
+use mathlib.Core.Logic.{_≢_, _⊎_}
+use Prim.Native.Nat.{ℕ, _+_, _≤_}
+use lib.ListN.{drop}
+use Rattle.spec_trees.specs.Limits.{depthMax}
+use Rattle.spec_trees.specs.Tree.{Tree}
+use Rattle.spec_trees.specs.Bytes.{treeBytes}
+use Rattle.spec_trees.specs.Within.{Allowed}
+use Rattle.areas.specs.Area.{Is, IsAt}
+use Rattle.areas.specs.declared.span.Span.{Span}
+use Rattle.areas.specs.Number.{twoAt}
+use Rattle.spec_queries.specs.Query.{Pair}
+use Rattle.queries.specs.Places.{pairsBytes}
+use Rattle.spec_stages.specs.Group.{alike}
+use Rattle.stream.specs.Map.{treesMax}
+use Rattle.arrange.specs.Links.{Spot, down, passing, firstOf, Walk}
+use Rattle.arrange.specs.Index.{base, backAt, nextAt, headAt, sizeOf, standing, slot, Index, Entering}
+
+-- r is where the head of the tree's slot stands
+abbrev pub HeadIs : (q : List ℕ) (keysAt : Span) (w : List ℕ) (treeAt : Span) → ℕ → Type 0
+HeadIs q keysAt w treeAt r = (gs : List Pair) (t : Tree) → IsAt q keysAt (pairsBytes gs) → IsAt w treeAt (treeBytes t)
+    → r ≡ headAt (slot gs t)
+
+-- ---- the search for the last tree with the same key
+-- it begins at the last with the same slot
+pub record Search (w q : List ℕ) (keysAt treeAt : Span) (last : ℕ) : Type 0 where
+  pub entering : Entering w q keysAt treeAt
+  pub last-is : last ≡ twoAt w (headAt (slot (entering .grouping) (entering .tree)))
+
+-- the last of those seen with the key of t; 0 is none
+abbrev pub lastLike : List Pair → List Tree → Tree → ℕ
+lastLike gs seen t = firstOf (λ u. alike gs u t) (reverse (standing seen))
+
+abbrev pub LastIs : (w q : List ℕ) (keysAt treeAt : Span) (last : ℕ) → ℕ → Type 0
+LastIs w q keysAt treeAt last r = (s : Search w q keysAt treeAt last) → r ≡ lastLike (s .entering .grouping) (s .entering .seen) (s .entering .tree)
+
+-- a tree stands there
+pub record Stood (w : List ℕ) (s : Spot Tree) : Type 0 where
+  pub ok : Allowed depthMax (s .1)
+  pub stands : Is w (s .0) (s .0 + sizeOf (s .1)) (treeBytes (s .1))
+  pub above : base ≤ s .0
+  pub within : s .0 + sizeOf (s .1) ≤ base + treesMax
+
+-- at `at` the search has the trees `left` before it
+pub record Searching (w : List ℕ) (gs : List Pair) (seen : List Tree) (t : Tree) (at : ℕ) : Type 0 where
+  pub below : ℕ
+  pub left : List (Spot Tree)
+  pub walk : Walk (Stood w) (down 6) (λ a. twoAt w (backAt a)) below at left
+  pub rest : firstOf (λ u. alike gs u t) left ≡ lastLike gs seen t
+
+-- ---- what is stored
+-- the link of y, if there is one, leads to x; numbers that do not overlap it stay
+pub record Linked (w v : List ℕ) (y x : ℕ) : Type 0 where
+  pub linked : y ≢ 0 → twoAt v (nextAt y) ≡ x
+  pub others : (b : ℕ) → (y ≢ 0 → (b + 2 ≤ nextAt y) ⊎ (nextAt y + 2 ≤ b)) → twoAt v b ≡ twoAt w b
+  pub beyond : drop base v ≡ drop base w
+
+-- the tree has entered
+pub record Enters (w v q : List ℕ) (keysAt treeAt : Span) : Type 0 where
+  pub beyond : drop base v ≡ drop base w
+  pub index : (e : Entering w q keysAt treeAt) → Index v (e .grouping) (e .seen ++ (e .tree ∷ []))

@@ -1,0 +1,82 @@
+-- The index of the trees that a group's array has, in the terms of the code: where its numbers stand, and what they
+-- are when some of the trees are entered.
+use mathlib.Core.Path.{_≡_}
+use mathlib.Core.List.{List, [], _∷_, _++_}
+use mathlib.Core.Bool.{Bool, cond}
+use Prim.Native.Nat.{ℕ, _+_, _-_, _*_, _%_, _≤_}
+use lib.ListN.{length}
+use Rattle.spec_trees.specs.Limits.{depthMax, workMin}
+use Rattle.spec_trees.specs.Tree.{Tree}
+use Rattle.spec_trees.specs.Bytes.{treeBytes}
+use Rattle.spec_trees.specs.Within.{Allowed, AllowedA}
+use Rattle.areas.specs.Area.{Is, IsAt}
+use Rattle.areas.specs.declared.span.Span.{Span}
+use Rattle.areas.specs.Number.{twoAt}
+use Rattle.spec_queries.specs.Query.{Pair}
+use Rattle.queries.specs.Places.{pairsBytes, arrayTrees}
+use Rattle.spec_stages.specs.Group.{key, alike, sum}
+use Rattle.spec_stages.specs.Classes.{unlike}
+use Rattle.group.specs.Keys.{FewPairs, keyHash}
+use Rattle.stream.specs.Map.{treesMax, collectorAt}
+use Rattle.arrange.specs.Links.{Spot, spots, Indexed}
+
+-- ---- where the numbers stand
+-- the collected trees
+abbrev pub base : ℕ
+base = 43692
+
+-- for the tree at a: the tree before it with the same slot, the tree behind it with the same key, and its mark
+abbrev pub backAt : ℕ → ℕ
+backAt a = a - 21848
+
+abbrev pub nextAt : ℕ → ℕ
+nextAt a = a - 21846
+
+abbrev pub markAt : ℕ → ℕ
+markAt a = a - 21844
+
+-- the last tree that was entered with the slot h
+abbrev pub slots : ℕ
+slots = 2048
+
+abbrev pub headAt : ℕ → ℕ
+headAt h = 38228 + 2 * h
+
+-- ---- what they are
+abbrev pub sizeOf : Tree → ℕ
+sizeOf t = length (treeBytes t)
+
+-- the trees where they stand
+abbrev pub standing : List Tree → List (Spot Tree)
+standing ts = spots sizeOf base ts
+
+abbrev pub slot : List Pair → Tree → ℕ
+slot gs t = keyHash (key gs t) % slots
+
+-- the mark of a tree: its subset, and 16 more if it begins no class
+unfoldable pub mark : ℕ → Bool → ℕ
+mark m first = m + cond first 0 16
+
+-- each tree's mark, behind those that were seen before it
+abbrev pub Marks : List Pair → (ℕ → ℕ) → List Tree → List (Spot Tree) → Type 0
+Marks gs marks seen [] = Unit {0}
+Marks gs marks seen (s ∷ ss) = (marks (s .0) ≡ mark (sum (key gs (s .1))) (unlike gs seen (s .1))) × Marks gs marks (seen ++ (s .1 ∷ [])) ss
+
+pub record Index (w : List ℕ) (gs : List Pair) (ts : List Tree) : Type 0 where
+  pub links : Indexed (alike gs) (slot gs) slots (λ a. twoAt w (nextAt a)) (λ a. twoAt w (backAt a)) (λ h. twoAt w (headAt h)) (standing ts)
+  pub marks : Marks gs (λ a. twoAt w (markAt a)) [] (standing ts)
+
+-- ---- a tree enters, behind those that are entered
+pub record Entering (w q : List ℕ) (keysAt treeAt : Span) : Type 0 where
+  pub size : length w ≡ workMin
+  pub high : treeAt .to ≤ base + treesMax
+  pub grouping : List Pair
+  pub few : FewPairs grouping
+  pub grouping-is : IsAt q keysAt (pairsBytes grouping)
+  pub seen : List Tree
+  pub seen-ok : AllowedA seen
+  pub seen-is : Is w base (treeAt .from) (arrayTrees seen)
+  pub tree : Tree
+  pub tree-ok : Allowed depthMax tree
+  pub tree-is : IsAt w treeAt (treeBytes tree)
+  pub index : Index w grouping seen

@@ -1,0 +1,88 @@
+//! The trees of the collected array enter an index, one after another: for each tree the last before it with the same
+//! slot, which the search for a tree with its key follows back; the next behind it with the same key; and a mark, its
+//! subset of the grouping pairs, and whether it begins a class. A slot is a hash of the key: what it gets wrong costs
+//! time, for which keys are equal is decided by their bytes. Of `<'a>`: see crate `paths`'s `equality`.
+ghost use mathlib.Core.Path.{_≡_};
+ghost use mathlib.Core.Logic.{_≢_};
+ghost use Prim.Native.Nat.{_+_, _≤_, _<_};
+ghost use lib.Dec.{eqb};
+ghost use lib.ListN.{length};
+ghost use Rattle.spec_trees.specs.Limits.{workMin};
+ghost use Rattle.spec_trees.specs.Bytes.{treeBytes};
+ghost use Rattle.queries.specs.Places.{pairsBytes, HoldsAt};
+ghost use Rattle.stream.specs.Map.{treesMax};
+ghost use Rattle.arrange.specs.Index.{base, mark, Entering};
+ghost use Rattle.arrange.specs.Entering.{HeadIs, Search, LastIs, Linked, Enters};
+use crate::index::Index;
+use areas::area::field_end;
+use areas::number::put_two;
+use areas::number::two_at;
+use areas::span::Span;
+use group::key::key_hash;
+use group::key::same_key;
+use group::key::subset;
+
+/// Where the last tree is noted that was entered with the slot of this one.
+fn head_of(query: &[u8], keys: Span, work: &[u8], tree: Span) -> usize
+    requires { ⌜ HoldsAt pairsBytes (now query) keys × HoldsAt treeBytes (now work) tree ⌝ }
+    ensures { λ r. ⌜ (38228 ≤ r) × (r + 2 ≤ 42324) × HeadIs (now (query .entry)) keys (now (work .entry)) tree r ⌝ }
+{
+    Index::HEADS + 2 * (key_hash(query, keys, work, tree) % Index::SLOTS)
+}
+
+/// The last tree that was entered with the key of this one, or 0 if none was. `last` is the last with its slot.
+fn last_like<'a>(work: &'a [u8], query: &'a [u8], keys: Span, tree: Span, last: usize) -> usize
+    requires { ⌜ Search (now work) (now query) keys tree last ⌝ }
+    ensures { λ r. ⌜ LastIs (now (work .entry)) (now (query .entry)) keys tree last r ⌝ }
+{
+    let mut at = last;
+    while at != 0 {
+        let other = Span {
+            from: at,
+            to: field_end(work, at),
+        };
+        if same_key(query, keys, work, other, work, tree) {
+            return at;
+        }
+        at = two_at(work, at - Index::BACK);
+    }
+    0
+}
+
+/// The mark of a tree of the subset: 16 more, which no subset has, if a tree like it stands before it.
+fn mark_of(subset: usize, like: usize) -> usize
+    requires { ⌜ subset < 16 ⌝ }
+    ensures { λ r. ⌜ (r < 32) × (r ≡ mark subset (eqb like 0)) ⌝ }
+{
+    if like == 0 {
+        return subset;
+    }
+    subset + 16
+}
+
+/// The tree at `like`, unless that is 0, gets the tree at `at` as the next with its key.
+fn link(work: &mut [u8], like: usize, at: usize)
+    requires { ⌜ (length (now work) ≡ workMin) × (like ≢ 0 → base ≤ like) × (like ≤ base + treesMax) × (at < workMin) ⌝ }
+    ensures { λ _. ⌜ Linked (now (work .entry)) (now (work .exit)) like at ⌝ }
+{
+    if like != 0 {
+        put_two(work, like - Index::NEXT, at);
+    }
+}
+
+/// Enters the tree, behind those that are entered.
+fn enter(work: &mut [u8], query: &[u8], keys: Span, tree: Span)
+    requires { ⌜ Entering (now work) (now query) keys tree ⌝ }
+    ensures { λ _. ⌜ Enters (now (work .entry)) (now (work .exit)) (now (query .entry)) keys tree ⌝ }
+{
+    let at = tree.from;
+    let head = head_of(query, keys, work, tree);
+    let last = two_at(work, head);
+    let like = last_like(work, query, keys, tree, last);
+    let mark = mark_of(subset(query, keys, work, tree), like);
+    put_two(work, at - Index::BACK, last);
+    put_two(work, at - Index::NEXT, 0);
+    put_two(work, at - Index::MARK, mark);
+    put_two(work, head, at);
+    link(work, like, at);
+}

@@ -1,0 +1,3 @@
+//! The array that enters a group, arranged class by class.
+pub mod enter;
+pub mod index;
