@@ -1,5 +1,6 @@
 -- Definitions.
 pub mod Walk
+pub mod Hash
 -- Laws.
 pub mod WalkLaws
 pub mod ElementLaws
@@ -7,3 +8,4 @@ pub mod ComparedLaws
 pub mod OperandLaws
 pub mod SameLaws
 pub mod EqualLaws
+pub mod HashLaws
