@@ -94,7 +94,8 @@ hash-over-hash-walk-requires t c κs = (
   (
     walk-first (c .before .before .loop .inv .0) (c .before .loop-test .taken)
         (c .field-end .ensures),
-    c .before .before .loop .inv .1,
+    omega
+        (arith, c .before .before .loop .inv .1, c .before .before .before .before .before .pre .1 .1),
   ),
 )
 
