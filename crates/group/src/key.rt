@@ -1,15 +1,19 @@
-//! The key of a tree in a group: which grouping sources are present, and whether two trees have equal source values.
-//! The pairs stand in the query, one behind another, and are read there for each tree. Nothing is copied.
+//! The key of a tree in a group: which grouping sources are present, whether two trees have equal source values, and a
+//! number that is the same where they do. The pairs stand in the query, one behind another, and are read there for each
+//! tree. Nothing is copied.
 //! Of `<'a>`: see crate `paths`'s `equality`.
 ghost use mathlib.Core.Path.{_≡_};
 ghost use mathlib.Core.Bool.{cond};
-ghost use Prim.Native.Nat.{_≤_};
+ghost use Prim.Native.Nat.{_≤_, _<_};
 ghost use Rattle.spec_trees.specs.Bytes.{treeBytes};
 ghost use Rattle.queries.specs.Places.{pairBytes, pairsBytes, HoldsAt, OkAt};
 ghost use Rattle.group.specs.Keys.{FewPairs, SourcedIs, SameSourceIs, SubsetIs, AlikeIs};
+ghost use Rattle.group.specs.KeyHash.{SourceHashIs, KeyHashIs};
+ghost use Rattle.paths.specs.Hash.{hashLimit};
 use areas::area::field_end;
 use areas::span::Span;
 use paths::equality::same_values;
+use paths::hash::hash_path;
 use paths::path::present;
 use queries::item::pair_at;
 
@@ -87,4 +91,29 @@ pub fn same_key<'a>(
         at = m;
     }
     true
+}
+
+/// The number with the source of the pair in the tree more.
+fn hash_source(query: &[u8], pair: Span, area: &[u8], tree: Span, number: usize) -> usize
+    requires { ⌜ HoldsAt pairBytes (now query) pair × HoldsAt treeBytes (now area) tree × (number < hashLimit) ⌝ }
+    ensures { λ r. ⌜ SourceHashIs number (now (query .entry)) pair (now (area .entry)) tree r × (r < hashLimit) ⌝ }
+{
+    let at = pair_at(query, pair);
+    hash_path(query, at.source, area, tree, number)
+}
+
+/// The number of the tree's key. Trees with equal source values have equal numbers.
+pub fn key_hash(query: &[u8], keys: Span, area: &[u8], tree: Span) -> usize
+    requires { ⌜ HoldsAt pairsBytes (now query) keys × HoldsAt treeBytes (now area) tree ⌝ }
+    ensures { λ r. ⌜ KeyHashIs (now (query .entry)) keys (now (area .entry)) tree r × (r < hashLimit) ⌝ }
+{
+    let end = keys.to;
+    let mut h: usize = 0;
+    let mut at = keys.from;
+    while at != end {
+        let m = field_end(query, at);
+        h = hash_source(query, Span { from: at, to: m }, area, tree, h);
+        at = m;
+    }
+    h
 }
