@@ -10,24 +10,46 @@ pub struct Case {
     pub joined: Vec<u8>,
 }
 
-/// A kind of case, by name: one for each size.
+/// The sizes of cases, n: about how many bytes of arrays.
+pub const SIZES: [usize; 5] = [1024, 2048, 4096, 8192, 16384];
+
+/// A kind of case, by name: one for each size up to the greatest.
 pub struct Kind {
     pub name: &'static str,
     pub make: fn(usize) -> Case,
+    pub most: usize,
 }
 
-pub const KINDS: [Kind; 11] = [
-    Kind { name: "the paper's seven stages", make: paper::pipeline },
-    Kind { name: "match and project", make: match_project },
-    Kind { name: "two unwinds and a match", make: two_unwinds },
-    Kind { name: "group, few classes", make: group_few },
-    Kind { name: "group, many classes", make: group_many },
-    Kind { name: "lookup, unique keys", make: lookup_unique },
-    Kind { name: "lookup, one hot key", make: lookup_hot },
-    Kind { name: "group by two keys, lookup", make: group_lookup },
-    Kind { name: "deep merges", make: deep_merges },
-    Kind { name: "no stage: checking", make: checking },
-    Kind { name: "no stage: bare trees", make: bare_trees },
+impl Kind {
+    const fn new(name: &'static str, make: fn(usize) -> Case) -> Kind {
+        Kind { name, make, most: 16384 }
+    }
+
+    pub fn sizes(&self) -> impl Iterator<Item = usize> + '_ {
+        SIZES.into_iter().filter(|n| *n <= self.most)
+    }
+
+    pub fn cases(&self) -> Vec<Case> {
+        self.sizes().map(self.make).collect()
+    }
+}
+
+pub const KINDS: [Kind; 15] = [
+    Kind::new("the paper's seven stages", paper::pipeline),
+    Kind::new("match and project", match_project),
+    Kind::new("two unwinds and a match", two_unwinds),
+    Kind::new("group, few classes", group_few),
+    Kind::new("group, many classes", group_many),
+    Kind::new("group, joined keys", group_joined),
+    Kind::new("group, sixteen subsets", group_subsets),
+    Kind::new("lookup, unique keys", lookup_unique),
+    Kind::new("lookup, one hot key", lookup_hot),
+    Kind::new("group by two keys, lookup", group_lookup),
+    Kind::new("deep merges", deep_merges),
+    Kind::new("no stage: checking", checking),
+    Kind::new("no stage: bare trees", bare_trees),
+    Kind::new("bare trees: match, group, lookup", bare_stages),
+    Kind { name: "check of a query", make: query_check, most: 4096 },
 ];
 
 // ---- arrays of about n bytes
@@ -94,6 +116,37 @@ fn group_many(n: usize) -> Case {
     Case { query: query(&stages), input: filled(n, job), joined: none() }
 }
 
+/// Twenty classes by a path of two labels. Its value is joined from two to four arrays, and members of a class
+/// have it cut at different places.
+fn group_joined(n: usize) -> Case {
+    const CUTS: [&[usize]; 4] = [&[1, 3], &[2, 2], &[1, 1, 2], &[3, 0, 1]];
+    let record = |i: i64| {
+        let k = i / 2 % 20;
+        let mut value = [lens(k), integer(k % 4), integer(k % 5), lens(k % 3)].into_iter();
+        let pieces = CUTS[i as usize % 4].iter();
+        let pieces = pieces.map(|m| void(&[(2, value.by_ref().take(*m).collect())])).collect();
+        void(&[(1, pieces), (3, vec![integer(i)])])
+    };
+    let stages = [group(&[(&[3], &[3])], &[(&[1, 2], &[1])])];
+    Case { query: query(&stages), input: filled(n, record), joined: none() }
+}
+
+/// Four pairs: sixteen trees one after another have every subset of their sources, and each subset but the
+/// empty one has three classes.
+fn group_subsets(n: usize) -> Case {
+    let record = |i: i64| {
+        let value = || vec![text(["a", "b", "c"][i as usize / 16 % 3])];
+        let subset = i * 7 % 16;
+        let present = (1..=4).filter(|j| subset & 1 << (j - 1) != 0);
+        let labels = present.map(|j| (j, value())).chain([(5, vec![integer(i)])]);
+        void(&labels.collect::<Vec<_>>())
+    };
+    let pairs = [1, 2, 3, 4].map(|j| [j]);
+    let pairs = pairs.each_ref().map(|p| (&p[..], &p[..]));
+    let stages = [group(&[(&[5], &[5])], &pairs)];
+    Case { query: query(&stages), input: filled(n, record), joined: none() }
+}
+
 /// Each tree has at most one partner. The arrays are shorter, so that the result is within its limit.
 fn lookup_unique(n: usize) -> Case {
     let other = |i: i64| void(&[(1, vec![integer(i)]), (8, vec![integer(-i)])]);
@@ -140,4 +193,58 @@ fn checking(n: usize) -> Case {
 /// As many trees as an array can hold.
 fn bare_trees(n: usize) -> Case {
     Case { query: query(&[]), input: filled(n, |_| void(&[])), joined: none() }
+}
+
+/// As many trees as an array can hold, through stages that read them all: no tree has what the group takes, so
+/// that what it makes of them is within the limits.
+fn bare_stages(n: usize) -> Case {
+    let stages =
+        [matching(not(exists(&[1]))), group(&[(&[1], &[1])], &[(&[2], &[2])]), lookup(&[2], &[1], &[3])];
+    Case { query: query(&stages), input: filled(n, |_| void(&[])), joined: filled(100, keyed) }
+}
+
+/// A query of about n bytes over nothing: stages, criteria and data of every kind, nested, and the items of
+/// three projects to fill it.
+fn query_check(n: usize) -> Case {
+    let queries = (1..=16 * 3).map(query_of).take_while(|q| q.len() <= n);
+    Case { query: queries.last().unwrap_or_default(), input: none(), joined: none() }
+}
+
+/// A query of eight stages, among them three projects with so many items or one more each.
+fn query_of(items: u8) -> Vec<u8> {
+    let projected = |which: u8| project(&(0..1.max((items + which) / 3)).map(item).collect::<Vec<_>>());
+    query(&[
+        matching(nested(6, 1)),
+        unwind(&[1, 2, 3]),
+        projected(0),
+        matching(either(nested(2, 4), always())),
+        projected(1),
+        group(&[(&[1], &[1]), (&[2, 3], &[2])], &[(&[4], &[4]), (&[5, 6, 7], &[5])]),
+        lookup(&[1, 2], &[3], &[4, 5]),
+        projected(2),
+    ])
+}
+
+/// A criterion of every kind, with so many levels of and and or.
+fn nested(levels: u8, k: u8) -> Vec<u8> {
+    match levels {
+        0 => exists(&[k]),
+        1 | 3 | 5 => both(not(equal(&[k], &[lens(k.into())])), nested(levels - 1, k + 1)),
+        _ => either(not(same(&[k], &[k, 9])), nested(levels - 1, k + 1)),
+    }
+}
+
+/// A keep, or a place of data of one kind or another.
+fn item(i: u8) -> Vec<u8> {
+    let k = i + 1;
+    let data = match i % 4 {
+        0 => return keep(&[k, k]),
+        1 => choice(nested(2, k), list(&[from(&[k, 2]), reduced(&[k], 100)]), literal(&[keyed(i.into())])),
+        2 => list(&[literal(&[lens(i.into()), integer(i.into())]), tested(nested(1, k)), from(&[k])]),
+        _ => {
+            let inner = choice(same(&[k], &[]), list(&[tested(always()), from(&[k])]), literal(&[]));
+            choice(nested(1, k), list(&[inner, reduced(&[k, 3], 7)]), from(&[]))
+        }
+    };
+    place(data, &[k, 8])
 }

@@ -82,6 +82,18 @@ pub fn equal(p: &[u8], trees: &[Vec<u8>]) -> Vec<u8> {
     around(35, &[path(p), array(trees)])
 }
 
+pub fn always() -> Vec<u8> {
+    field(33, &[])
+}
+
+pub fn same(p: &[u8], q: &[u8]) -> Vec<u8> {
+    around(36, &[path(p), path(q)])
+}
+
+pub fn not(c: Vec<u8>) -> Vec<u8> {
+    field(37, &c)
+}
+
 pub fn both(c: Vec<u8>, d: Vec<u8>) -> Vec<u8> {
     around(38, &[c, d])
 }
@@ -96,6 +108,18 @@ pub fn literal(trees: &[Vec<u8>]) -> Vec<u8> {
 
 pub fn from(p: &[u8]) -> Vec<u8> {
     field(41, &path(p))
+}
+
+pub fn list(data: &[Vec<u8>]) -> Vec<u8> {
+    around(42, data)
+}
+
+pub fn tested(c: Vec<u8>) -> Vec<u8> {
+    field(43, &c)
+}
+
+pub fn choice(c: Vec<u8>, yes: Vec<u8>, no: Vec<u8>) -> Vec<u8> {
+    around(44, &[c, yes, no])
 }
 
 pub fn reduced(p: &[u8], n: u16) -> Vec<u8> {

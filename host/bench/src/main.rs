@@ -14,16 +14,13 @@ mod page;
 mod paper;
 mod plot;
 
-use cases::{Case, KINDS};
+use cases::{Case, Kind, KINDS};
 use measure::Measured;
 use std::error::Error;
 use std::hint::black_box;
 use std::path::Path;
 use std::process::ExitCode;
 use tquery::Engine;
-
-/// The sizes of cases, n: about how many bytes of arrays.
-const SIZES: [usize; 5] = [1024, 2048, 4096, 8192, 16384];
 
 /// The engine's answer: the length, or the number of the refusal.
 fn engine(c: &Case, work: &mut [u8], result: &mut [u8]) -> Result<usize, u32> {
@@ -36,9 +33,11 @@ fn floor(c: &Case, work: &mut [u8], result: &mut [u8]) {
     work.fill(0);
 }
 
+type Run = fn(&Case, &mut [u8], &mut [u8]) -> Result<usize, u32>;
+
 /// Whether engine and opponent give the same result. A case that is refused is no case to measure.
 fn agree(c: &Case) -> bool {
-    let run = |call: fn(&Case, &mut [u8], &mut [u8]) -> Result<usize, u32>| {
+    let run = |call: Run| {
         let (mut work, mut result) = (vec![7; 65536], vec![7; 16384]);
         (call(c, &mut work, &mut result), work, result)
     };
@@ -57,7 +56,7 @@ struct Figures {
 
 fn measure_all() -> Result<Figures, String> {
     let load = page::load();
-    let kinds: Vec<Vec<Case>> = KINDS.iter().map(|kind| SIZES.map(kind.make).into()).collect();
+    let kinds: Vec<Vec<Case>> = KINDS.iter().map(Kind::cases).collect();
     if !kinds.iter().flatten().all(agree) {
         return Err("engine and opponent differ on a case, or refuse it: the tests say which".into());
     }
@@ -129,18 +128,20 @@ mod tests {
     #[test]
     fn engine_and_opponent_agree_on_every_case() {
         for kind in &KINDS {
-            for size in SIZES {
+            for size in kind.sizes() {
                 assert!(agree(&(kind.make)(size)), "{} at {size} bytes", kind.name);
             }
         }
     }
 
-    /// A case's input has the size that it is named by. Of one kind it is shorter, and the kind says why.
+    /// A case's input has the size that it is named by, or its query. Of one kind it is shorter, and the kind
+    /// says why.
     #[test]
     fn cases_have_their_size() {
         for kind in KINDS.iter().filter(|k| k.name != "lookup, unique keys") {
-            for size in SIZES {
-                let n = (kind.make)(size).input.len();
+            for size in kind.sizes() {
+                let c = (kind.make)(size);
+                let n = if kind.name == "check of a query" { c.query.len() } else { c.input.len() };
                 assert!((size * 9 / 10..=size).contains(&n), "{} at {size} bytes has {n}", kind.name);
             }
         }

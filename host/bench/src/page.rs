@@ -1,18 +1,19 @@
 //! The tables, and their place in a page.
 
-use crate::cases::KINDS;
+use crate::cases::{KINDS, SIZES};
 use crate::measure::Measured;
-use crate::{Figures, SIZES};
+use crate::Figures;
 
 const BEGIN: &str = "<!-- tables: written by `bench --write` -->";
 const END: &str = "<!-- end of tables -->";
 
-/// One row for each kind, and in it one cell for each size from `skip` on.
+/// One row for each kind, and in it one cell for each size from `skip` on, or a dash.
 fn table(kinds: &[Vec<Measured>], skip: usize, cell: impl Fn(&Measured) -> String) -> String {
     let sizes: Vec<String> = SIZES[skip..].iter().map(|n| format!("{} KB", n / 1024)).collect();
     let mut out = format!("| Case | {} |\n|---|{}\n", sizes.join(" | "), "---:|".repeat(sizes.len()));
     for (kind, row) in KINDS.iter().zip(kinds) {
-        let cells: Vec<String> = row[skip..].iter().map(&cell).collect();
+        let mut cells: Vec<String> = row[skip..].iter().map(&cell).collect();
+        cells.resize(sizes.len(), "–".to_string());
         out += &format!("| {} | {} |\n", kind.name, cells.join(" | "));
     }
     out

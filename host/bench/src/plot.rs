@@ -1,8 +1,7 @@
 //! The plot: time against size, both logarithmic, one panel for each kind.
 
-use crate::cases::KINDS;
+use crate::cases::{KINDS, SIZES};
 use crate::measure::Measured;
-use crate::SIZES;
 
 const COLUMNS: usize = 4;
 const PANEL: (f64, f64) = (236.0, 190.0);

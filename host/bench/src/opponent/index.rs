@@ -66,16 +66,15 @@ impl Index {
     /// present.
     pub fn number<'p>(&mut self, paths: impl Iterator<Item = &'p [u8]>, tree: &[u8]) -> (usize, usize) {
         let subset = self.write(paths, tree);
-        let number = self.find().map(|number| {
-            self.bytes.truncate(self.written());
-            number
-        });
-        let number = number.unwrap_or_else(|slot| {
-            self.ends.push(self.bytes.len());
-            self.slots[slot] = self.ends.len() as u32;
-            self.ends.len() - 1
-        });
-        (number, subset)
+        let found = self.find();
+        match found {
+            Ok(_) => self.bytes.truncate(self.written()),
+            Err(slot) => {
+                self.ends.push(self.bytes.len());
+                self.slots[slot] = self.ends.len() as u32;
+            }
+        }
+        (found.unwrap_or(self.ends.len() - 1), subset)
     }
 
     /// The number of a tree's key, if it has one.
