@@ -45,15 +45,15 @@ pub fn run(
 }
 
 fn admitted(query: &[u8], input: &[u8], joined: &[u8], result: &mut [u8]) -> Result<usize, Refused> {
-    let stages = check_query(query)?;
+    let query = check_query(query)?;
     let input = check_array(input, 4, 5)?;
     let joined = check_array(joined, 6, 7)?;
     let room = result.len().min(ARRAY);
     let Some((head, out)) = result[..room].split_first_chunk_mut::<3>() else {
         // no array fits, but a tree that is too large goes before that
-        return stream::run(&stages, input, joined, &mut []).and(Err(10));
+        return stream::run(&query, input, joined, &mut []).and(Err(10));
     };
-    let used = stream::run(&stages, input, joined, out)?;
+    let used = stream::run(&query, input, joined, out)?;
     let [high, low] = (used as u16).to_be_bytes();
     *head = [1, high, low];
     Ok(used + 3)

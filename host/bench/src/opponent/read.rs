@@ -1,7 +1,7 @@
 //! What a tree says: paths and criteria, read where the tree stands.
 
 use super::bytes::{trees, under};
-use super::query::Criterion;
+use super::query::{behind, Kind, Node};
 
 /// Calls f with each piece of what the path gives, in order: whether it is present.
 pub fn apply<'a>(path: &[u8], tree: &'a [u8], f: &mut impl FnMut(&'a [u8])) -> bool {
@@ -60,14 +60,17 @@ fn same(p: &[u8], q: &[u8], tree: &[u8]) -> bool {
     append(p, tree, &mut a) == append(q, tree, &mut b) && a == b
 }
 
-pub fn holds(c: &Criterion, tree: &[u8]) -> bool {
-    match c {
-        Criterion::True => true,
-        Criterion::Exists(p) => exists(p, tree),
-        Criterion::Equal(p, array) => equals(p, tree, array),
-        Criterion::Same(p, q) => same(p, q, tree),
-        Criterion::Not(c) => !holds(c, tree),
-        Criterion::And(two) => two.iter().all(|c| holds(c, tree)),
-        Criterion::Or(two) => two.iter().any(|c| holds(c, tree)),
+/// Whether the tree meets the criterion that the nodes begin with.
+pub fn holds(nodes: &[Node], tree: &[u8]) -> bool {
+    let inside = &nodes[1..];
+    match nodes[0].kind {
+        Kind::Exists(p) => exists(p, tree),
+        Kind::Equal(p, array) => equals(p, tree, array),
+        Kind::Same(p, q) => same(p, q, tree),
+        Kind::Not => !holds(inside, tree),
+        Kind::And => holds(inside, tree) && holds(behind(inside), tree),
+        Kind::Or => holds(inside, tree) || holds(behind(inside), tree),
+        // no other kind is a criterion
+        _ => true,
     }
 }

@@ -2,7 +2,7 @@
 
 use super::bytes::{trees, ARRAY, VOID};
 use super::index::{Index, Lists};
-use super::query::{Pair, Stage};
+use super::query::{Node, Pair, Query, Stage};
 use super::read::{append, holds};
 use super::write::{place, unwind, write_item, Build};
 use super::Refused;
@@ -57,21 +57,28 @@ struct Room<'a> {
     partners: Option<Partners<'a>>,
 }
 
+/// What all stages read: the query's criteria and data, and the joined array's trees.
+#[derive(Clone, Copy)]
+struct Read<'s, 'a> {
+    nodes: &'s [Node<'s>],
+    joined: &'a [u8],
+}
+
 /// The stages of a stretch, behind its group.
 struct Stretch<'s, 'a> {
     stages: &'s [Stage<'s>],
     rooms: Vec<Room<'a>>,
-    joined: &'a [u8],
+    read: Read<'s, 'a>,
 }
 
 impl<'s, 'a> Stretch<'s, 'a> {
-    fn new(stages: &'s [Stage<'s>], joined: &'a [u8]) -> Stretch<'s, 'a> {
+    fn new(stages: &'s [Stage<'s>], read: Read<'s, 'a>) -> Stretch<'s, 'a> {
         let rooms = stages.iter().map(|_| Room { build: Build::new(), partners: None }).collect();
-        Stretch { stages, rooms, joined }
+        Stretch { stages, rooms, read }
     }
 
     fn feed(&mut self, tree: &[u8], sink: &mut Sink) -> Result<(), Refused> {
-        feed(self.stages, &mut self.rooms, self.joined, tree, sink)
+        feed(self.stages, &mut self.rooms, self.read, tree, sink)
     }
 }
 
@@ -79,7 +86,7 @@ impl<'s, 'a> Stretch<'s, 'a> {
 fn feed<'a>(
     stages: &[Stage],
     rooms: &mut [Room<'a>],
-    joined: &'a [u8],
+    read: Read<'_, 'a>,
     tree: &[u8],
     sink: &mut Sink,
 ) -> Result<(), Refused> {
@@ -88,20 +95,20 @@ fn feed<'a>(
         return Ok(());
     };
     match stage {
-        Stage::Match(c) if holds(c, tree) => feed(stages, rooms, joined, tree, sink),
+        Stage::Match(c) if holds(&read.nodes[*c..], tree) => feed(stages, rooms, read, tree, sink),
         Stage::Match(_) => Ok(()),
         Stage::Unwind(path) => {
-            unwind(path, tree, room.build.scratch(), &mut |t| feed(stages, rooms, joined, t, sink))
+            unwind(path, tree, room.build.scratch(), &mut |t| feed(stages, rooms, read, t, sink))
         }
         Stage::Project(items) => {
             room.build.start(&VOID);
             for item in items {
-                room.build.add(|out| write_item(item, tree, out))?;
+                room.build.add(|out| write_item(read.nodes, item, tree, out))?;
             }
-            feed(stages, rooms, joined, room.build.tree(), sink)
+            feed(stages, rooms, read, room.build.tree(), sink)
         }
         Stage::Lookup { tree: path, joined: other, target } => {
-            let partners = room.partners.get_or_insert_with(|| Partners::new(other, joined));
+            let partners = room.partners.get_or_insert_with(|| Partners::new(other, read.joined));
             room.build.start(tree);
             room.build.add(|out| {
                 place(target, out, |out| {
@@ -109,7 +116,7 @@ fn feed<'a>(
                     true
                 })
             })?;
-            feed(stages, rooms, joined, room.build.tree(), sink)
+            feed(stages, rooms, read, room.build.tree(), sink)
         }
         // a stretch ends before a group
         Stage::Group { .. } => Ok(()),
@@ -161,12 +168,12 @@ fn group(
 }
 
 /// Performs a stretch over an array's trees, into `out`: how many bytes of it they take, if it holds them.
-fn perform(stages: &[Stage], array: &[u8], joined: &[u8], out: &mut [u8]) -> Result<Option<usize>, Refused> {
+fn perform(stages: &[Stage], array: &[u8], read: Read, out: &mut [u8]) -> Result<Option<usize>, Refused> {
     let mut sink = Sink { out, used: 0, over: false };
     if let [Stage::Group { aggregates, grouping }, stages @ ..] = stages {
-        group(aggregates, grouping, array, &mut Stretch::new(stages, joined), &mut sink)?;
+        group(aggregates, grouping, array, &mut Stretch::new(stages, read), &mut sink)?;
     } else {
-        let mut stretch = Stretch::new(stages, joined);
+        let mut stretch = Stretch::new(stages, read);
         trees(array).try_for_each(|t| stretch.feed(t, &mut sink))?;
     }
     Ok((!sink.over).then_some(sink.used))
@@ -178,9 +185,10 @@ fn stretch_end(stages: &[Stage]) -> usize {
     group.map_or(stages.len(), |at| at + 1)
 }
 
-/// Runs the stages over the input's trees and writes what they give to `out`: how many bytes of it that
-/// takes.
-pub fn run(mut stages: &[Stage], input: &[u8], joined: &[u8], out: &mut [u8]) -> Result<usize, Refused> {
+/// Runs the query over the input's trees and writes what it gives to `out`: how many bytes of it that takes.
+pub fn run(query: &Query, input: &[u8], joined: &[u8], out: &mut [u8]) -> Result<usize, Refused> {
+    let read = Read { nodes: &query.nodes, joined };
+    let mut stages = &query.stages[..];
     // the array that enters a group, and the one that leaves its stretch; the input enters from where it
     // stands
     let (mut array, mut next): (Vec<u8>, Vec<u8>) = (Vec::new(), Vec::new());
@@ -189,10 +197,10 @@ pub fn run(mut stages: &[Stage], input: &[u8], joined: &[u8], out: &mut [u8]) ->
         let (stretch, later) = stages.split_at(stretch_end(stages));
         let trees = entering.map_or(input, |n| &array[..n]);
         if later.is_empty() {
-            return perform(stretch, trees, joined, out)?.ok_or(10);
+            return perform(stretch, trees, read, out)?.ok_or(10);
         }
         next.resize(ARRAY - 3, 0);
-        let used = perform(stretch, trees, joined, &mut next)?.ok_or(9u32)?;
+        let used = perform(stretch, trees, read, &mut next)?.ok_or(9u32)?;
         std::mem::swap(&mut array, &mut next);
         entering = Some(used);
         stages = later;

@@ -1,7 +1,7 @@
 //! What a tree becomes. A head is stored when its content is written.
 
 use super::bytes::{apart, field_end, fits, held, labels, root, trees, under, Apart, TREE, VOID};
-use super::query::{Data, Item};
+use super::query::{behind, Item, Kind, Node};
 use super::read::{append, holds};
 use super::Refused;
 
@@ -106,32 +106,47 @@ fn reduce_from(out: &mut [u8], mut at: usize, n: u64) {
     }
 }
 
-fn write_data(d: &Data, tree: &[u8], out: &mut Vec<u8>) -> bool {
-    match d {
-        Data::Literal(array) => {
+/// Writes what the data that the nodes begin with give of the tree: whether it is present.
+fn write_data(nodes: &[Node], tree: &[u8], out: &mut Vec<u8>) -> bool {
+    let inside = &nodes[1..];
+    match nodes[0].kind {
+        Kind::Literal(array) => {
             out.extend_from_slice(array);
             true
         }
-        Data::Path(p) => append(p, tree, out),
-        Data::List(ds) => ds.iter().fold(false, |any, d| write_data(d, tree, out) | any),
-        Data::Test(c) => {
-            out.extend_from_slice(&[2, 0, 4, 4, 0, 1, u8::from(holds(c, tree))]);
-            true
+        Kind::Path(p) => append(p, tree, out),
+        Kind::List => write_list(&nodes[1..nodes[0].size], tree, out),
+        Kind::Choice => {
+            let data = behind(inside);
+            write_data(if holds(inside, tree) { data } else { behind(data) }, tree, out)
         }
-        Data::Choice(c, two) => write_data(&two[usize::from(!holds(c, tree))], tree, out),
-        Data::Reduced(p, n) => {
+        Kind::Reduced(p, n) => {
             let from = out.len();
             let present = append(p, tree, out);
-            reduce_from(out, from, *n);
+            reduce_from(out, from, n);
             present
+        }
+        // the only kind that is left
+        _ => {
+            out.extend_from_slice(&[2, 0, 4, 4, 0, 1, u8::from(holds(inside, tree))]);
+            true
         }
     }
 }
 
-pub fn write_item(item: &Item, tree: &[u8], out: &mut Vec<u8>) {
+fn write_list(mut members: &[Node], tree: &[u8], out: &mut Vec<u8>) -> bool {
+    let mut any = false;
+    while !members.is_empty() {
+        any |= write_data(members, tree, out);
+        members = behind(members);
+    }
+    any
+}
+
+pub fn write_item(nodes: &[Node], item: &Item, tree: &[u8], out: &mut Vec<u8>) {
     match item {
         Item::Keep(p) => keep(p, tree, out),
-        Item::Place(d, p) => place(p, out, |out| write_data(d, tree, out)),
+        Item::Place(d, p) => place(p, out, |out| write_data(&nodes[*d..], tree, out)),
     }
 }
 
