@@ -7,7 +7,7 @@ use Prim.Native.Nat.{ℕ, _+_, _-_, _≤_}
 use native.Mathlib.Omega.{arith}
 use lib.ListN.{length, take, drop}
 use Rattle.areas.specs.declared.area.Out.{Out}
-use Rattle.spec_trees.specs.Tree.{Tree, node, boolean, bare, root}
+use Rattle.spec_trees.specs.Tree.{Tree, node, boolean, bare, list, root}
 use Rattle.spec_trees.specs.Bytes.{fieldBytes, bytes, rootF, treeF, treeBytes}
 use Rattle.areas.specs.Area.{Is, Wrote, fieldEnd, IsAt, span}
 use Rattle.areas.specs.declared.span.Span.{Span}
@@ -23,10 +23,10 @@ use Rattle.queries.specs.Places.{routeBytes, criterionBytes, dataBytes, datasBy
 use Rattle.queries.specs.PartLaws.{datas-parts, datas-none, datas-places}
 use Rattle.queries.specs.PlaceLaws.{reduced-range}
 use Rattle.data.specs.declared.value.Value.{Value}
-use Rattle.spec_stages.specs.Paths.{join, joins, apply}
+use Rattle.spec_stages.specs.Paths.{Given, join, joins, over, apply}
 use Rattle.spec_stages.specs.Criteria.{holds}
 use Rattle.spec_stages.specs.Data.{value, values, reducedTree}
-use Rattle.paths.specs.Walk.{given, Tells}
+use Rattle.paths.specs.Walk.{given, Tells, TellsOver}
 use Rattle.paths.specs.WalkLaws.{walk-at}
 use Rattle.paths.specs.ComparedLaws.{one-bytes}
 use Rattle.paths.specs.SameLaws.{apply-allowed}
@@ -42,11 +42,15 @@ rooted-zero [] = tt
 rooted-zero (t ∷ ts) = ((λ n. absurd (n refl)), rooted-zero ts)
 
 module _ (q : List ℕ) (p : Span) (i : ℕ) (w v : List ℕ) (a b d stop : ℕ) (r : Value) where
-  pub path-plain : Tells q p i w (span a b) (WroteParts 0 false w v (span d stop) r) → Tells q p i w (span a b) (λ x. WroteFound w v d stop x r)
+  plain : (x : Given) → WroteParts 0 false w v (span d stop) r x → WroteFound w v d stop x r
   unfolding join
-  path-plain k s t g h =
-      let x = apply (drop i s) t in
-      subst (λ y. WroteFound w v d stop y r) (parts-zero 0 x refl) (k s t g h (rooted-zero (given x)))
+  plain x k = subst (λ y. WroteFound w v d stop y r) (parts-zero 0 x refl) (k (rooted-zero (given x)))
+
+  pub path-plain : Tells q p i w (span a b) (WroteParts 0 false w v (span d stop) r) → Tells q p i w (span a b) (λ x. WroteFound w v d stop x r)
+  path-plain k s t g h = plain (apply (drop i s) t) (k s t g h)
+
+  pub over-plain : TellsOver q p i w (span a b) (WroteParts 0 false w v (span d stop) r) → TellsOver q p i w (span a b) (λ x. WroteFound w v d stop x r)
+  over-plain k s ts g h = plain (over (apply (drop i s)) (list ts)) (k s ts g h)
 
   pub path-reduced : {n : ℕ} → (n ≡ 0 → ⊥) → Tells q p i w (span a b) (WroteParts n false w v (span d stop) r)
       → Tells q p i w (span a b) (λ x. All (λ t. OkR (root t)) (given x) → WroteFound w v d stop (Option·map (map (reducedTree n)) x) r)

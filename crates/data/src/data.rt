@@ -149,6 +149,14 @@ pub fn write_path(work: &mut [u8], query: &[u8], path: Span, tree: Span, room: S
     write_walk(work, query, path, 0, 0, tree, room)
 }
 
+/// What the path gives over an array, by its trees.
+pub fn write_path_over(work: &mut [u8], query: &[u8], path: Span, trees: Span, room: Span) -> Value
+    requires { ⌜ WalkReady treesBytes (now query) path 0 (now work) trees room 0 ⌝ }
+    ensures { λ r. ⌜ TellsOver (now (query .entry)) path 0 (now (work .entry)) trees (λ x. WroteFound (now (work .entry)) (now (work .exit)) (room .from) (room .to) x r) ⌝ }
+{
+    write_over(work, query, path, 0, 0, trees, room)
+}
+
 /// What the path gives of the tree, with the root of each tree divided.
 pub fn write_reduced(
     work: &mut [u8],

@@ -1,7 +1,7 @@
 -- Trees that stand one behind another, as the list of an array: the first and the rest, none, and those behind an
 -- array's head.
 use mathlib.Core.Path.{_≡_, refl, sym, subst}
-use mathlib.Core.List.{List, [], _∷_}
+use mathlib.Core.List.{List, [], _∷_, _++_}
 use Prim.Native.Nat.{ℕ, _+_, _≤_}
 use native.Mathlib.Omega.{arith}
 use lib.ListN.{length}
@@ -11,9 +11,9 @@ use Rattle.spec_trees.specs.Tree.{Tree, trees}
 use Rattle.spec_trees.specs.Bytes.{bytes, treeF, treeFs, treeBytes, arrayF, arrayBytes}
 use Rattle.spec_trees.specs.Within.{Allowed, AllowedA}
 use Rattle.areas.specs.Area.{Is, fieldEnd}
-use Rattle.areas.specs.AreaLaws.{is-content, is-join}
+use Rattle.areas.specs.AreaLaws.{is-content, is-join, is-left, is-right}
 use Rattle.format.specs.Stand.{treesBytes}
-use Rattle.format.specs.StandLaws.{trees-parts, trees-none}
+use Rattle.format.specs.StandLaws.{trees-parts, trees-none, is-alone}
 use Rattle.queries.specs.Places.{arrayTrees, HoldsOk}
 
 -- the first tree, which ends at m, and those behind it
@@ -52,6 +52,14 @@ module _ {w : List ℕ} {p e : ℕ} where
   pub array-before : {m : ℕ} (t : Tree) (ts : List Tree) → Is w p m (treeBytes t) → Is w m e (arrayTrees ts) → Is w p e (arrayTrees (t ∷ ts))
   unfolding bytes treeF treeBytes
   array-before t ts h k = is-join h k
+
+-- a tree behind others
+pub array-behind : {w : List ℕ} {p m e : ℕ} (ts : List Tree) (t : Tree) → Is w p m (arrayTrees ts) → Is w m e (treeBytes t) → Is w p e (arrayTrees (ts ++ (t ∷ [])))
+unfolding bytes treeF treeBytes
+array-behind {w} {p} {m} {e} [] t h k = let z : m ≡ p = omega (arith, h .ends) in subst (λ i. Is w i e (arrayTrees (t ∷ []))) z (is-alone t k)
+array-behind {w} {p} {m} {e} (x ∷ xs) t h k =
+    let y : p + length (treeBytes x) ≡ p + length (treeBytes x) = refl in
+    array-before x (xs ++ (t ∷ [])) (is-left (treeBytes x) (arrayTrees xs) y h) (array-behind xs t (is-right (treeBytes x) (arrayTrees xs) y h) k)
 
 module _ {w : List ℕ} {p m e : ℕ} (n : p ≡ e → ⊥) (g : m ≡ fieldEnd w p) (h : HoldsOk AllowedA arrayTrees w p e) where
   pub array-places : (p + 6 ≤ m) × (m ≤ e) × (e ≤ length w)
