@@ -1,11 +1,10 @@
--- What the tree of a class asks of the area, and what is made there. The class begins at a tree, and its other
--- members are the trees behind it that have the same key.
+-- What the tree of a class asks of the area, and what is made there. The members of the class stand one behind
+-- another.
 use mathlib.Core.List.{List}
 use Prim.Native.Nat.{ℕ, _+_, _*_, _≤_}
 use lib.ListN.{length}
 use Rattle.areas.specs.declared.area.Out.{Out}
 use Rattle.spec_trees.specs.Limits.{treeMax, depthMax, aggregatesMax, groupingMax, workMin}
-use Rattle.spec_trees.specs.Lists.{filter}
 use Rattle.spec_trees.specs.Tree.{Tree}
 use Rattle.spec_trees.specs.Bytes.{treeBytes}
 use Rattle.spec_trees.specs.Within.{Allowed, AllowedA}
@@ -15,11 +14,11 @@ use Rattle.spec_queries.specs.Query.{Pair}
 use Rattle.spec_queries.specs.Rules.{OkPairs}
 use Rattle.queries.specs.Places.{pairsBytes, arrayTrees, HoldsOk, OkAt}
 use Rattle.queries.specs.declared.stage.GroupAt.{GroupAt}
-use Rattle.spec_stages.specs.Group.{alike, classTree}
+use Rattle.spec_stages.specs.Group.{classTree}
 use Rattle.build.specs.Made.{Made}
 
--- in q the group's pairs stand; in w the first tree of the class, and the trees behind it up to `end`, below s; from s on
--- there are three rooms
+-- in q the group's pairs stand; in w the first tree of the class, and the others behind it up to `end`, below s; from s
+-- on there are three rooms
 pub record ClassReady (w q : List ℕ) (at : GroupAt) (firstAt : Span) (end s : ℕ) : Type 0 where
   pub aggregates : OkAt (OkPairs aggregatesMax) pairsBytes q (at .aggregates)
   pub grouping : OkAt (OkPairs groupingMax) pairsBytes q (at .keys)
@@ -34,4 +33,4 @@ abbrev pub MakesClass : (w v q : List ℕ) (at : GroupAt) (firstAt : Span) (end 
 MakesClass w v q at firstAt end s r = (ags gs : List Pair) (t : Tree) (ts : List Tree)
     → OkPairs aggregatesMax ags → IsAt q (at .aggregates) (pairsBytes ags) → OkPairs groupingMax gs → IsAt q (at .keys) (pairsBytes gs)
     → Allowed depthMax t → IsAt w firstAt (treeBytes t) → AllowedA ts → Is w (firstAt .to) end (arrayTrees ts)
-    → Made w v s (classTree ags gs (t, filter (alike gs t) ts)) r
+    → Made w v s (classTree ags gs (t, ts)) r

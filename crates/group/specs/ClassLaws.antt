@@ -18,9 +18,10 @@ use Rattle.areas.specs.declared.span.Span.{Span}
 use Rattle.spec_queries.specs.Query.{Pair}
 use Rattle.spec_queries.specs.Rules.{OkPair, OkPairs}
 use Rattle.queries.specs.Places.{pairsBytes, arrayTrees, HoldsOk}
+use Rattle.queries.specs.TreesLaws.{array-before}
 use Rattle.spec_stages.specs.Merge.{build}
 use Rattle.queries.specs.declared.stage.GroupAt.{GroupAt}
-use Rattle.spec_stages.specs.Group.{alike, aggregated, identified, sourced, Class, classTree}
+use Rattle.spec_stages.specs.Group.{aggregated, identified, sourced, Class, classTree}
 use Rattle.group.specs.Grow.{aggregateValue, identityValue, onePart, sourcedPart, FirstAt, ClassAt, Grown, PairsReady, PairsGrow}
 use Rattle.group.specs.GrowLaws.{grown-void, grown-stop, grown-next, grown-made}
 use Rattle.group.specs.PairLaws.{first-keep, class-keep}
@@ -50,43 +51,27 @@ class-parts ags gs c = ap (build bareVoid) (ap₂ _++_ (aggregate-parts c ags) (
 pairs-of : {m : ℕ} {q : List ℕ} {p e : ℕ} → HoldsOk (OkPairs m) pairsBytes q p e → HoldsOk (All OkPair) pairsBytes q p e
 pairs-of h = record { value = h .value; allowed = h .allowed .0; value-is = h .value-is }
 
--- ---- the class of the first tree, of whatever stands there
-abbrev classOf : List Pair → Tree → List Tree → Class
-classOf gs t ts = (t, filter (alike gs t) ts)
+-- ---- the class, of whatever stands there
+module _ {w : List ℕ} {x xe b s : ℕ} (t : Tree) (ts : List Tree) (ot : Allowed depthMax t) (ht : Is w x xe (treeBytes t)) (os : AllowedA ts) (hs : Is w xe b (arrayTrees ts)) (l : b ≤ s) where
+  class-there : ClassAt (span x b) s w (t, ts)
+  class-there = record { allowed = (ot, os); members-are = array-before t ts ht hs; below = l }
 
-module _ {w q : List ℕ} {g ge x xe b s : ℕ} where
-  class-there : (gs : List Pair) (t : Tree) (ts : List Tree) → Is q g ge (pairsBytes gs) → Allowed depthMax t → Is w x xe (treeBytes t)
-      → AllowedA ts → Is w xe b (arrayTrees ts) → b ≤ s → ClassAt q (span g ge) (span x xe) b s w (classOf gs t ts)
-  class-there gs t ts hg ot ht os hs l = record {
-    pairs = gs;
-    rest = ts;
-    members = refl;
-    pairs-is = hg;
-    allowed = ot;
-    first-is = ht;
-    rest-allowed = os;
-    rest-is = hs;
-    below = l;
-  }
-
-  first-there : (c : Class) → ClassAt q (span g ge) (span x xe) b s w c → FirstAt (span x xe) s w c
-  first-there c h = record { allowed = h .allowed; first-is = h .first-is; below = omega (arith, h .below, h .rest-is .ends) }
+  first-there : FirstAt (span x xe) s w (t, ts)
+  first-there = record { allowed = ot; first-is = ht; below = omega (arith, l, hs .ends) }
 
 module _ {w q : List ℕ} {at : GroupAt} {x xe b s : ℕ} (h : ClassReady w q at (span x xe) b s) {w1 : List ℕ} {z : ℕ} (l : length w1 ≡ length w)
     (k : Wrote w w1 s (s + treeMax) (treeBytes bareVoid) (At z)) where
   abbrev start : Grown w w1 s bareVoid [] (At z)
   start = grown-void (h .room) k
 
-  pub class-ready : PairsReady (ClassAt q (at .keys) (span x xe) b s) w1 q (at .aggregates) (span s z)
+  pub class-ready : PairsReady (ClassAt (span x b) s) w1 q (at .aggregates) (span s z)
   class-ready =
       let a = h .first in
       let r = h .rest in
-      let gs = h .grouping in
       let t = start .tree-is z refl in
       record {
-        members = classOf (gs .value) (a .value) (r .value);
-        there = class-keep (classOf (gs .value) (a .value) (r .value)) (start .below)
-            (class-there (gs .value) (a .value) (r .value) (gs .value-is) (a .allowed) (a .value-is) (r .allowed) (r .value-is) (h .below));
+        members = (a .value, r .value);
+        there = class-keep (a .value, r .value) (start .below) (class-there (a .value) (r .value) (a .allowed) (a .value-is) (r .allowed) (r .value-is) (h .below));
         asked = pairs-of (h .aggregates);
         whole = record { tree = t .tree; ok = t .ok; tree-is = t .stands };
         within = t .within;
@@ -94,30 +79,30 @@ module _ {w q : List ℕ} {at : GroupAt} {x xe b s : ℕ} (h : ClassReady w q at
         small = omega (arith, h .small);
       }
 
-  module _ {w2 : List ℕ} {r : Out} (j : PairsGrow (ClassAt q (at .keys) (span x xe) b s) (onePart aggregateValue) w1 w2 q (at .aggregates) (span s z) r) where
+  module _ {w2 : List ℕ} {r : Out} (j : PairsGrow (ClassAt (span x b) s) (onePart aggregateValue) w1 w2 q (at .aggregates) (span s z) r) where
     -- the aggregates were built in, of whatever stands there
-    aggregates-grown : (ags gs : List Pair) (t : Tree) (ts : List Tree) → OkPairs aggregatesMax ags → IsAt q (at .aggregates) (pairsBytes ags) → IsAt q (at .keys) (pairsBytes gs)
+    aggregates-grown : (ags : List Pair) (t : Tree) (ts : List Tree) → OkPairs aggregatesMax ags → IsAt q (at .aggregates) (pairsBytes ags)
         → Allowed depthMax t → Is w x xe (treeBytes t) → AllowedA ts → Is w xe b (arrayTrees ts)
-        → Grown w w2 s bareVoid (gather (onePart aggregateValue (classOf gs t ts)) ags) r
-    aggregates-grown ags gs t ts oa ha hg ot ht os hs =
-        let there = class-keep (classOf gs t ts) (start .below) (class-there gs t ts hg ot ht os hs (h .below)) in
-        grown-next start (gather (onePart aggregateValue (classOf gs t ts)) ags) refl
-        (λ y oy hy. j (classOf gs t ts) ags y there (oa .0) ha oy hy)
+        → Grown w w2 s bareVoid (gather (onePart aggregateValue (t, ts)) ags) r
+    aggregates-grown ags t ts oa ha ot ht os hs =
+        let there = class-keep (t, ts) (start .below) (class-there t ts ot ht os hs (h .below)) in
+        grown-next start (gather (onePart aggregateValue (t, ts)) ags) refl (λ y oy hy. j (t, ts) ags y there (oa .0) ha oy hy)
 
     pub class-stop : r ≡ TooLarge → MakesClass w w2 q at (span x xe) b s TooLarge
     class-stop y ags gs t ts oa ha og hg ot ht os hs =
-        grown-made (class-parts ags gs (classOf gs t ts))
-        (grown-stop (aggregates-grown ags gs t ts oa ha hg ot ht os hs) (gather (sourcedPart (classOf gs t ts)) gs) y)
+        grown-made (class-parts ags gs (t, ts)) (grown-stop (aggregates-grown ags t ts oa ha ot ht os hs) (gather (sourcedPart (t, ts)) gs) y)
 
     module _ {i : ℕ} (y : r ≡ At i) where
       pub identities-ready : length w2 ≡ length w1 → PairsReady (FirstAt (span x xe) s) w2 q (at .keys) (span s i)
       identities-ready l2 =
-          let a = class-ready in
-          let n = j (a .members) (a .asked .value) (a .whole .tree) (a .there) (a .asked .allowed) (a .asked .value-is) (a .whole .ok) (a .whole .tree-is) in
+          let f = h .first in
+          let o = h .rest in
+          let a = h .aggregates in
+          let n = aggregates-grown (a .value) (f .value) (o .value) (a .allowed) (a .value-is) (f .allowed) (f .value-is) (o .allowed) (o .value-is) in
           let t = n .tree-is i y in
           record {
-            members = a .members;
-            there = first-keep (a .members) (n .below) (first-there (a .members) (a .there));
+            members = (f .value, o .value);
+            there = first-keep (f .value, o .value) (n .below) (first-there (f .value) (o .value) (f .allowed) (f .value-is) (o .allowed) (o .value-is) (h .below));
             asked = pairs-of (h .grouping);
             whole = record { tree = t .tree; ok = t .ok; tree-is = t .stands };
             within = t .within;
@@ -127,7 +112,7 @@ module _ {w q : List ℕ} {at : GroupAt} {x xe b s : ℕ} (h : ClassReady w q at
 
       pub class-made : {w3 : List ℕ} {o : Out} → PairsGrow (FirstAt (span x xe) s) sourcedPart w2 w3 q (at .keys) (span s i) o → MakesClass w w3 q at (span x xe) b s o
       class-made {w3} {o} k2 ags gs t ts oa ha og hg ot ht os hs =
-          let n = aggregates-grown ags gs t ts oa ha hg ot ht os hs in
-          let there = first-keep (classOf gs t ts) (n .below) (first-there (classOf gs t ts) (class-there gs t ts hg ot ht os hs (h .below))) in
-          grown-made (class-parts ags gs (classOf gs t ts))
-          (grown-next n (gather (sourcedPart (classOf gs t ts)) gs) y (λ z oz hz. k2 (classOf gs t ts) gs z there (og .0) hg oz hz))
+          let n = aggregates-grown ags t ts oa ha ot ht os hs in
+          let there = first-keep (t, ts) (n .below) (first-there t ts ot ht os hs (h .below)) in
+          grown-made (class-parts ags gs (t, ts))
+          (grown-next n (gather (sourcedPart (t, ts)) gs) y (λ z oz hz. k2 (t, ts) gs z there (og .0) hg oz hz))

@@ -8,11 +8,11 @@ use lib.ListN.{length, take, drop}
 use Rattle.areas.specs.declared.area.Out.{Out}
 use Rattle.areas.specs.declared.area.Out.the-variants.{At, TooLarge}
 use Rattle.spec_trees.specs.Limits.{treeMax, depthMax, workMin}
-use Rattle.spec_trees.specs.Lists.{filter, All, gather}
+use Rattle.spec_trees.specs.Lists.{All, gather}
 use Rattle.spec_trees.specs.Tree.{Tree}
 use Rattle.spec_trees.specs.Bytes.{treeBytes}
 use Rattle.spec_trees.specs.Within.{Ok, Allowed, AllowedA}
-use Rattle.areas.specs.Area.{Is, IsAt, span}
+use Rattle.areas.specs.Area.{IsAt, span}
 use Rattle.areas.specs.declared.span.Span.{Span}
 use Rattle.spec_queries.specs.Query.{Pair}
 use Rattle.spec_queries.specs.Rules.{OkPair}
@@ -20,7 +20,7 @@ use Rattle.queries.specs.Places.{pairBytes, pairsBytes, arrayTrees, OkAt}
 use Rattle.spec_stages.specs.Paths.{Given, over, apply}
 use Rattle.spec_stages.specs.Project.{placed}
 use Rattle.spec_stages.specs.Merge.{build}
-use Rattle.spec_stages.specs.Group.{alike, sourced, Class}
+use Rattle.spec_stages.specs.Group.{sourced, Class}
 use Rattle.build.specs.Build.{Standing}
 use Rattle.data.specs.declared.value.Value.{Value}
 use Rattle.data.specs.Value.{WroteFound}
@@ -50,17 +50,11 @@ pub record FirstAt (firstAt : Span) (s : ℕ) (w : List ℕ) (c : Class) : Type 
   pub first-is : IsAt w firstAt (treeBytes (c .0))
   pub below : firstAt .to ≤ s
 
--- the others are those of its key among the trees behind it, which stand up to `end`, below s
-pub record ClassAt (q : List ℕ) (keysAt firstAt : Span) (end s : ℕ) (w : List ℕ) (c : Class) : Type 0 where
-  pub pairs : List Pair
-  pub rest : List Tree
-  pub members : c .1 ≡ filter (alike pairs (c .0)) rest
-  pub pairs-is : IsAt q keysAt (pairsBytes pairs)
-  pub allowed : Allowed depthMax (c .0)
-  pub first-is : IsAt w firstAt (treeBytes (c .0))
-  pub rest-allowed : AllowedA rest
-  pub rest-is : Is w (firstAt .to) end (arrayTrees rest)
-  pub below : end ≤ s
+-- all its members stand there, one behind another, below s
+pub record ClassAt (membersAt : Span) (s : ℕ) (w : List ℕ) (c : Class) : Type 0 where
+  pub allowed : AllowedA (c .0 ∷ c .1)
+  pub members-are : IsAt w membersAt (arrayTrees (c .0 ∷ c .1))
+  pub below : membersAt .to ≤ s
 
 -- ---- the tree that grows
 

@@ -1,15 +1,11 @@
 -- Definitions.
 pub mod Keys
 pub mod KeyHash
-pub mod First
-pub mod Members
 pub mod Grow
 pub mod Class
 -- Laws.
 pub mod KeyLaws
 pub mod KeyHashLaws
-pub mod FirstLaws
-pub mod MembersLaws
 pub mod GrowLaws
 pub mod PairLaws
 pub mod ClassLaws

@@ -7,24 +7,25 @@ use native.Mathlib.Omega.{arith}
 use lib.ListN.{length, take}
 use Rattle.areas.specs.declared.area.Out.{Out}
 use Rattle.areas.specs.declared.area.Out.the-variants.{At}
-use Rattle.spec_trees.specs.Limits.{treeMax, depthMax, workMin}
-use Rattle.spec_trees.specs.ListLaws.{All-filter}
+use Rattle.spec_trees.specs.Limits.{treeMax, workMin}
+use Rattle.spec_trees.specs.Tree.{trees}
+use Rattle.spec_trees.specs.SizeLaws.{list-trees}
 use Rattle.spec_trees.specs.Bytes.{treeBytes}
-use Rattle.spec_trees.specs.Within.{Ok, Allowed, AllowedA}
+use Rattle.spec_trees.specs.Within.{Ok}
 use Rattle.areas.specs.Area.{Is, Wrote, IsAt, span}
 use Rattle.areas.specs.declared.span.Span.{Span}
 use Rattle.areas.specs.AreaLaws.{is-keep, wrote-keep, written}
-use Rattle.format.specs.Stand.{Holds}
+use Rattle.format.specs.Stand.{treesBytes, Holds}
 use Rattle.spec_queries.specs.Query.{Pair}
 use Rattle.spec_queries.specs.Rules.{OkPair}
-use Rattle.queries.specs.Places.{pathBytes, pairBytes, arrayTrees, PairIs, ReadsPair}
+use Rattle.queries.specs.Places.{pathBytes, pairBytes, PairIs, ReadsPair}
 use Rattle.queries.specs.declared.item.PairAt.{PairAt}
 use Rattle.queries.specs.Steps.{stepCount}
 use Rattle.spec_stages.specs.Paths.{Given, over, apply}
 use Rattle.spec_stages.specs.Project.{placed}
-use Rattle.spec_stages.specs.Group.{alike, sourced, Class}
+use Rattle.spec_stages.specs.Group.{sourced, Class}
 use Rattle.spec_stages.specs.KeepLaws.{OkF, labelled, placed-ok, apply-ok, over-ok, allowed-ok}
-use Rattle.paths.specs.Walk.{Tells}
+use Rattle.paths.specs.Walk.{Tells, TellsOver}
 use Rattle.paths.specs.WalkLaws.{walk-at}
 use Rattle.group.specs.Keys.{SourcedIs}
 use Rattle.group.specs.KeyLaws.{pair-source}
@@ -36,7 +37,6 @@ use Rattle.place.specs.Place.{placeRoom, roomAt}
 use Rattle.place.specs.PlaceLaws.{room-all, room-small}
 use Rattle.build.specs.Made.{Adding, Adds, ValueReady, PlacesValue}
 use Rattle.build.specs.BuildLaws.{standing-keep}
-use Rattle.group.specs.Members.{MembersReady, WroteMembers}
 use Rattle.group.specs.Grow.{aggregateValue, identityValue, onePart, sourcedPart, FirstAt, ClassAt, Grown, PairReady, PairGrows, Values}
 use Rattle.group.specs.GrowLaws.{grown-none, grown-one}
 
@@ -44,20 +44,8 @@ use Rattle.group.specs.GrowLaws.{grown-none, grown-one}
 pub first-keep : {x xe s : ℕ} {w u : List ℕ} (c : Class) → take s u ≡ take s w → FirstAt (span x xe) s w c → FirstAt (span x xe) s u c
 first-keep c k h = record { allowed = h .allowed; first-is = is-keep (h .first-is) k (h .below); below = h .below }
 
-pub class-keep : {q : List ℕ} {g ge x xe b s : ℕ} {w u : List ℕ} (c : Class) → take s u ≡ take s w → ClassAt q (span g ge) (span x xe) b s w c → ClassAt q (span g ge) (span x xe) b s u c
-class-keep {xe = xe} {s = s} c k h =
-    let l : xe ≤ s = omega (arith, h .below, h .rest-is .ends) in
-    record {
-      pairs = h .pairs;
-      rest = h .rest;
-      members = h .members;
-      pairs-is = h .pairs-is;
-      allowed = h .allowed;
-      first-is = is-keep (h .first-is) k l;
-      rest-allowed = h .rest-allowed;
-      rest-is = is-keep (h .rest-is) k (h .below);
-      below = h .below;
-    }
+pub class-keep : {x b s : ℕ} {w u : List ℕ} (c : Class) → take s u ≡ take s w → ClassAt (span x b) s w c → ClassAt (span x b) s u c
+class-keep c k h = record { allowed = h .allowed; members-are = is-keep (h .members-are) k (h .below); below = h .below }
 
 pub first-holds : {x xe s : ℕ} {w : List ℕ} (c : Class) → FirstAt (span x xe) s w c → Holds treeBytes w x xe
 first-holds c h = record { value = c .0; value-is = h .first-is }
@@ -66,10 +54,8 @@ first-holds c h = record { value = c .0; value-is = h .first-is }
 pub first-sound : {x xe s : ℕ} (w : List ℕ) (c : Class) (y : Pair) → FirstAt (span x xe) s w c → OkF (identityValue c y)
 first-sound w c y h = apply-ok (y .source) (c .0) (h .allowed .ok)
 
-pub class-sound : {q : List ℕ} {g ge x xe b s : ℕ} (w : List ℕ) (c : Class) (y : Pair) → ClassAt q (span g ge) (span x xe) b s w c → OkF (aggregateValue c y)
-class-sound w c y h =
-    let others = subst AllowedA (sym (h .members)) (All-filter (Allowed depthMax) (alike (h .pairs) (c .0)) (h .rest) (h .rest-allowed)) in
-    over-ok (apply (y .source)) (apply-ok (y .source)) (c .0 ∷ c .1) (allowed-ok (c .0 ∷ c .1) (h .allowed, others))
+pub class-sound : {x b s : ℕ} (w : List ℕ) (c : Class) (y : Pair) → ClassAt (span x b) s w c → OkF (aggregateValue c y)
+class-sound w c y h = over-ok (apply (y .source)) (apply-ok (y .source)) (c .0 ∷ c .1) (allowed-ok (c .0 ∷ c .1) (h .allowed))
 
 -- ---- where the target of a pair stands
 pair-target : {q : List ℕ} {p e : ℕ} {y : Pair} {a : PairAt} → PairIs q (span p e) y a → IsAt q (a .target) (pathBytes (y .target))
@@ -133,27 +119,29 @@ module _ (C : List ℕ → Class → Type 0) {w q : List ℕ} {p e s se : ℕ} (
           (adds w z (placed (y .target) (f c y)) (sym l2) oz (part-sound c y hc oy) hz (part-written c y hc oy hy))
 
 -- ---- the value of an aggregate
-module _ {w q : List ℕ} {g ge x xe b p e s : ℕ} {a : PairAt} (reads : ReadsPair q (span p e) a) where
-  pub aggregate-ready : {se : ℕ} → PairReady (ClassAt q (span g ge) (span x xe) b s) w q (span p e) (span s se) → (n : ℕ) → n ≤ 112
-      → MembersReady AllowedA arrayTrees w q (span g ge) (a .source) (span x xe) (span xe b) (span (s + treeMax + n) (s + treeMax + treeMax))
+module _ {w q : List ℕ} {x b p e s : ℕ} {a : PairAt} (reads : ReadsPair q (span p e) a) where
+  pub aggregate-ready : {se : ℕ} → PairReady (ClassAt (span x b) s) w q (span p e) (span s se) → (n : ℕ) → n ≤ 112
+      → WalkReady treesBytes q (a .source) 0 w (span x b) (span (s + treeMax + n) (s + treeMax + treeMax)) 0
   aggregate-ready h n l =
-      let c = h .there in
+      let y = h .asked .value in
+      let c = h .members in
       record {
-        grouping = record { value = c .pairs; value-is = c .pairs-is };
-        path = record { value = h .asked .value .source; value-is = pair-source (reads (h .asked .value) (h .asked .value-is)) };
-        first = record { value = h .members .0; allowed = c .allowed; value-is = c .first-is };
-        others = record { value = c .rest; allowed = c .rest-allowed; value-is = c .rest-is };
-        first-below = omega (arith, c .below, c .rest-is .ends);
-        below = omega (arith, c .below);
+        walk = record {
+          path = record { value = y .source; value-is = pair-source (reads y (h .asked .value-is)) };
+          step = omega arith;
+          stands = record { value = trees (c .0 ∷ c .1); value-is = h .there .members-are };
+        };
+        below = omega (arith, h .there .below);
         room = omega arith;
         area = omega (arith, h .room);
+        divisor = omega arith;
       }
 
-  pub aggregate-values : {u : List ℕ} {d stop : ℕ} {r : Value} → WroteMembers w u q (span g ge) (a .source) (span x xe) b (span d stop) r
-      → Values (ClassAt q (span g ge) (span x xe) b s) aggregateValue w u q (span p e) (span d stop) r
+  pub aggregate-values : {u : List ℕ} {d stop : ℕ} {r : Value} → TellsOver q (a .source) 0 w (span x b) (λ y. WroteFound w u d stop y r)
+      → Values (ClassAt (span x b) s) aggregateValue w u q (span p e) (span d stop) r
   aggregate-values {u} {d} {stop} {r} k c y hc hy =
-      subst (λ i. WroteFound w u d stop (over (apply (y .source)) (c .0 ∷ i)) r) (sym (hc .members))
-      (k (hc .pairs) (y .source) (c .0) (hc .rest) (hc .pairs-is) (pair-source (reads y hy)) (hc .allowed) (hc .first-is) (hc .rest-allowed) (hc .rest-is))
+      subst (λ l. WroteFound w u d stop (over (apply (y .source)) l) r) (list-trees (c .0 ∷ c .1))
+      (k (y .source) (trees (c .0 ∷ c .1)) (pair-source (reads y hy)) (hc .members-are))
 
 -- ---- the value of a grouping pair
 module _ {w q : List ℕ} {x xe p e s : ℕ} {a : PairAt} (reads : ReadsPair q (span p e) a) where

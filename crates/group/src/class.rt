@@ -3,7 +3,6 @@
 //! added.
 ghost use Rattle.group.specs.Grow.{aggregateValue, identityValue, onePart, sourcedPart, FirstAt, ClassAt, PairReady, PairGrows, PairsReady, PairsGrow};
 ghost use Rattle.group.specs.Class.{ClassReady, MakesClass};
-use crate::members::write_members;
 use areas::area::Out;
 use areas::area::field_end;
 use areas::span::Span;
@@ -11,6 +10,7 @@ use build::part::add_written;
 use build::part::begin;
 use build::part::place_value;
 use data::data::write_path;
+use data::data::write_path_over;
 use format::limits::Limits;
 use paths::path::present;
 use place::place::heads_room;
@@ -18,24 +18,16 @@ use queries::item::pair_at;
 use queries::stage::GroupAt;
 
 /// Adds to the tree so far what the aggregate gives of the class: the values of all members, joined.
-fn add_aggregate(
-    work: &mut [u8],
-    query: &[u8],
-    keys: Span,
-    pair: Span,
-    first: Span,
-    end: usize,
-    built: Span,
-) -> Out
-    requires { ⌜ PairReady (ClassAt (now query) keys first end (built .from)) (now work) (now query) pair built ⌝ }
-    ensures { λ r. ⌜ PairGrows (ClassAt (now (query .entry)) keys first end (built .from)) (onePart aggregateValue) (now (work .entry)) (now (work .exit)) (now (query .entry)) pair built r ⌝ }
+fn add_aggregate(work: &mut [u8], query: &[u8], pair: Span, members: Span, built: Span) -> Out
+    requires { ⌜ PairReady (ClassAt members (built .from)) (now work) (now query) pair built ⌝ }
+    ensures { λ r. ⌜ PairGrows (ClassAt members (built .from)) (onePart aggregateValue) (now (work .entry)) (now (work .exit)) (now (query .entry)) pair built r ⌝ }
 {
     let at = pair_at(query, pair);
     let n = heads_room(query, at.target);
     let from = built.from + Limits::TREE;
     let to = from + Limits::TREE;
     let inner = Span { from: from + n, to };
-    let r = write_members(work, query, keys, at.source, first, end, inner);
+    let r = write_path_over(work, query, at.source, members, inner);
     let o = place_value(work, query, at.target, Span { from, to }, r);
     add_written(work, built, o)
 }
@@ -44,14 +36,12 @@ fn add_aggregate(
 fn add_aggregates(
     work: &mut [u8],
     query: &[u8],
-    keys: Span,
     aggregates: Span,
-    first: Span,
-    end: usize,
+    members: Span,
     built: Span,
 ) -> Out
-    requires { ⌜ PairsReady (ClassAt (now query) keys first end (built .from)) (now work) (now query) aggregates built ⌝ }
-    ensures { λ r. ⌜ PairsGrow (ClassAt (now (query .entry)) keys first end (built .from)) (onePart aggregateValue) (now (work .entry)) (now (work .exit)) (now (query .entry)) aggregates built r ⌝ }
+    requires { ⌜ PairsReady (ClassAt members (built .from)) (now work) (now query) aggregates built ⌝ }
+    ensures { λ r. ⌜ PairsGrow (ClassAt members (built .from)) (onePart aggregateValue) (now (work .entry)) (now (work .exit)) (now (query .entry)) aggregates built r ⌝ }
 {
     let last = aggregates.to;
     let base = built.from;
@@ -60,8 +50,7 @@ fn add_aggregates(
     while at != last {
         let m = field_end(query, at);
         let pair = Span { from: at, to: m };
-        let so_far = Span { from: base, to };
-        let r = add_aggregate(work, query, keys, pair, first, end, so_far);
+        let r = add_aggregate(work, query, pair, members, Span { from: base, to });
         let Out::At(n) = r else {
             return Out::TooLarge;
         };
@@ -120,8 +109,8 @@ fn add_identities(work: &mut [u8], query: &[u8], keys: Span, first: Span, built:
     Out::At(to)
 }
 
-/// Makes at `at` the tree of the class that begins at its first tree, and answers where it ends. The class's other
-/// members are among the trees behind that, up to `end`, below `at`. Above `at` three rooms of one tree each are used.
+/// Makes at `at` the tree of the class and answers where it ends. The class's members stand below `at`, one behind
+/// another: the first tree, and those behind it up to `end`. Above `at` three rooms of one tree each are used.
 pub fn class_tree(
     work: &mut [u8],
     query: &[u8],
@@ -137,7 +126,11 @@ pub fn class_tree(
         from: at,
         to: begin(work, at),
     };
-    let r = add_aggregates(work, query, group.keys, group.aggregates, first, end, begun);
+    let members = Span {
+        from: first.from,
+        to: end,
+    };
+    let r = add_aggregates(work, query, group.aggregates, members, begun);
     let Out::At(to) = r else {
         return Out::TooLarge;
     };

@@ -20,7 +20,7 @@ use Rattle.group.proofs.class.add_aggregate.Reads as reads
 use Rattle.group.proofs.class.add_aggregate.Lts as lts
 use Rattle.build.proofs.part.add_written.Reads as add-written-reads
 use Rattle.build.proofs.part.place_value.Reads as place-value-reads
-use Rattle.group.proofs.members.write_members.Reads as write-members-reads
+use Rattle.data.proofs.data.write_path_over.Reads as write-path-over-reads
 use Rattle.place.proofs.place.heads_room.Reads as heads-room-reads
 use Rattle.queries.proofs.item.pair_at.Reads as pair-at-reads
 
@@ -29,10 +29,9 @@ pair-at-requires c κs = holds-of (c .before .before .pre .asked)
 
 heads-room-requires : tie.Need-heads-room-requires
 heads-room-requires c κs =
-    target-along (ClassAt (c .before .before .before .args .query .now)
-    (c .before .before .before .args .keys) (c .before .before .before .args .first)
-    (c .before .before .before .args .end) (c .before .before .before .args .built .from))
-    (c .before .before .before .pre) (c .pair-at .ensures)
+    target-along (ClassAt (c .before .before .before .args .members)
+    (c .before .before .before .args .built .from)) (c .before .before .before .pre)
+    (c .pair-at .ensures)
 
 add-from : tie.Need-add-from
 add-from c = search needs
@@ -40,32 +39,26 @@ add-from c = search needs
 add-to : tie.Need-add-to
 add-to c = search needs
 
-add-t15 : tie.Need-add-t15
-add-t15 c =
+add-t13 : tie.Need-add-t13
+add-t13 c =
     omega (
       arith,
       (target-places
-          (ClassAt (c .before .before .before .before .before .args .query .now)
-          (c .before .before .before .before .before .args .keys)
-          (c .before .before .before .before .before .args .first)
-          (c .before .before .before .before .before .args .end)
+          (ClassAt (c .before .before .before .before .before .args .members)
           (c .before .before .before .before .before .args .built .from))
           (c .before .before .before .before .before .pre) (c .before .before .pair-at .ensures)),
       c .before .heads-room .ensures,
     )
 
-write-members-requires : tie.Need-write-members-requires
-write-members-requires c κs =
+write-path-over-requires : tie.Need-write-path-over-requires
+write-path-over-requires c κs =
     aggregate-ready (c .before .before .before .pair-at .ensures)
     (c .before .before .before .before .before .before .pre)
     (c .before .before .heads-room .result)
     (omega (
       arith,
       c .before .before .heads-room .ensures,
-      (target-places (ClassAt (c .before .before .before .before .before .before .args .query .now)
-          (c .before .before .before .before .before .before .args .keys)
-          (c .before .before .before .before .before .before .args .first)
-          (c .before .before .before .before .before .before .args .end)
+      (target-places (ClassAt (c .before .before .before .before .before .before .args .members)
           (c .before .before .before .before .before .before .args .built .from))
           (c .before .before .before .before .before .before .pre)
           (c .before .before .before .pair-at .ensures)) .0,
@@ -73,56 +66,47 @@ write-members-requires c κs =
 
 place-value-requires : tie.Need-place-value-requires
 place-value-requires c κs =
-    value-ready (ClassAt (c .before .before .before .before .before .before .before .before .before .before .args .query .now)
-    (c .before .before .before .before .before .before .before .before .before .before .args .keys)
-    (c .before .before .before .before .before .before .before .before .before .before .args .first)
-    (c .before .before .before .before .before .before .before .before .before .before .args .end)
+    value-ready (ClassAt (c .before .before .before .before .before .before .before .before .before .before .args .members)
     (c .before .before .before .before .before .before .before .before .before .before .args .built .from))
     (c .before .before .before .before .before .before .before .before .before .before .pre)
     (c .before .before .before .before .before .before .before .pair-at .ensures) aggregateValue
     class-sound (c .before .before .before .before .before .before .heads-room .ensures)
-    (c .before .before .before .write-members .kept .0)
+    (c .before .before .before .write-path-over .kept .0)
     (aggregate-values (c .before .before .before .before .before .before .before .pair-at .ensures)
-    (c .before .before .before .write-members .ensures))
+    (c .before .before .before .write-path-over .ensures))
 
 add-written-requires : tie.Need-add-written-requires
 add-written-requires c κs =
-    part-adding (ClassAt (c .before .before .before .before .before .before .before .before .before .before .before .before .before .before .args .query .now)
-    (c .before .before .before .before .before .before .before .before .before .before .before .before .before .before .args .keys)
-    (c .before .before .before .before .before .before .before .before .before .before .before .before .before .before .args .first)
-    (c .before .before .before .before .before .before .before .before .before .before .before .before .before .before .args .end)
+    part-adding (ClassAt (c .before .before .before .before .before .before .before .before .before .before .before .before .before .before .args .members)
     (c .before .before .before .before .before .before .before .before .before .before .before .before .before .before .args .built .from))
     (c .before .before .before .before .before .before .before .before .before .before .before .before .before .before .pre)
     (c .before .before .before .before .before .before .before .before .before .before .before .pair-at .ensures)
     aggregateValue class-sound
     (c .before .before .before .before .before .before .before .before .before .before .heads-room .ensures)
-    (c .before .before .before .before .before .before .before .write-members .kept .0)
+    (c .before .before .before .before .before .before .before .write-path-over .kept .0)
     (aggregate-values (c .before .before .before .before .before .before .before .before .before .before .before .pair-at .ensures)
-    (c .before .before .before .before .before .before .before .write-members .ensures))
+    (c .before .before .before .before .before .before .before .write-path-over .ensures))
     (c .before .before .before .place-value .ensures)
     ((c .before .before .before .place-value .kept .0 ∙
-    c .before .before .before .before .before .before .before .write-members .kept .0))
+    c .before .before .before .before .before .before .before .write-path-over .kept .0))
 
 same-length : tie.Need-same-length
 same-length c = search needs
 
 returns : tie.Need-returns
 returns c =
-    part-grows (ClassAt (c .before .before .before .before .before .before .before .before .before .before .before .before .before .before .before .before .before .args .query .now)
-    (c .before .before .before .before .before .before .before .before .before .before .before .before .before .before .before .before .before .args .keys)
-    (c .before .before .before .before .before .before .before .before .before .before .before .before .before .before .before .before .before .args .first)
-    (c .before .before .before .before .before .before .before .before .before .before .before .before .before .before .before .before .before .args .end)
+    part-grows (ClassAt (c .before .before .before .before .before .before .before .before .before .before .before .before .before .before .before .before .before .args .members)
     (c .before .before .before .before .before .before .before .before .before .before .before .before .before .before .before .before .before .args .built .from))
     (c .before .before .before .before .before .before .before .before .before .before .before .before .before .before .before .before .before .pre)
     (c .before .before .before .before .before .before .before .before .before .before .before .before .before .before .pair-at .ensures)
     aggregateValue class-sound
     (c .before .before .before .before .before .before .before .before .before .before .before .before .before .heads-room .ensures)
-    (c .before .before .before .before .before .before .before .before .before .before .write-members .kept .0)
+    (c .before .before .before .before .before .before .before .before .before .before .write-path-over .kept .0)
     (aggregate-values (c .before .before .before .before .before .before .before .before .before .before .before .before .before .before .pair-at .ensures)
-    (c .before .before .before .before .before .before .before .before .before .before .write-members .ensures))
+    (c .before .before .before .before .before .before .before .before .before .before .write-path-over .ensures))
     (c .before .before .before .before .before .before .place-value .ensures)
     ((c .before .before .before .before .before .before .place-value .kept .0 ∙
-    c .before .before .before .before .before .before .before .before .before .before .write-members .kept .0))
+    c .before .before .before .before .before .before .before .before .before .before .write-path-over .kept .0))
     (c .before .before .add-written .ensures)
 
 pub add-aggregate-spec : {M : Type 1} → statement M
@@ -133,8 +117,8 @@ add-aggregate-spec =
     heads-room-requires
     add-from
     add-to
-    add-t15
-    write-members-requires
+    add-t13
+    write-path-over-requires
     place-value-requires
     add-written-requires
     same-length

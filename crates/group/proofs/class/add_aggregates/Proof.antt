@@ -20,16 +20,15 @@ use Rattle.areas.proofs.area.field_end.Reads as field-end-reads
 use Rattle.group.proofs.class.add_aggregate.Reads as add-aggregate-reads
 
 abbrev Inv-loop : tie.InvT-loop
-Inv-loop work₀ query keys first end last base at₀ to₀ work at to =
-    PairsReady (ClassAt query keys first end base) work query (span at last) (span base to) ×
+Inv-loop work₀ query members last base at₀ to₀ work at to =
+    PairsReady (ClassAt members base) work query (span at last) (span base to) ×
     (length work ≡ length work₀)
-    × ((u : List ℕ) (r : Out) → PairsGrow (ClassAt query keys first end base)
-    (onePart aggregateValue) work u query (span at last) (span base to) r → PairsGrow
-    (ClassAt query keys first end base) (onePart aggregateValue) work₀ u query (span at₀ last)
-    (span base to₀) r)
+    × ((u : List ℕ) (r : Out) → PairsGrow (ClassAt members base) (onePart aggregateValue) work u
+    query (span at last) (span base to) r → PairsGrow (ClassAt members base)
+    (onePart aggregateValue) work₀ u query (span at₀ last) (span base to₀) r)
 
 abbrev μ-loop : tie.MeasureT-loop
-μ-loop work₀ query keys first end last base at₀ to₀ work at to = last - at
+μ-loop work₀ query members last base at₀ to₀ work at to = last - at
 
 loop-holds : tie.Need-loop-holds Inv-loop μ-loop
 loop-holds c = (c .before .before .pre, refl, λ u r h. h)
@@ -44,10 +43,7 @@ field-end-requires c κs =
 
 add-aggregate-requires : tie.Need-add-aggregate-requires Inv-loop μ-loop
 add-aggregate-requires c κs =
-    pairs-first (ClassAt (c .before .before .before .before .before .before .args .query .now)
-    (c .before .before .before .before .before .before .args .keys)
-    (c .before .before .before .before .before .before .args .first)
-    (c .before .before .before .before .before .before .args .end)
+    pairs-first (ClassAt (c .before .before .before .before .before .before .args .members)
     (c .before .before .before .before .before .before .args .built .from))
     (onePart aggregateValue) (c .before .before .before .before .before .before .args .query .now)
     (c .before .before .before .loop .at)
@@ -70,10 +66,7 @@ returns : tie.Need-returns Inv-loop μ-loop
 returns c =
     c .before .before .before .before .before .before .before .before .loop .inv .2
     (c .before .before .before .before .add-aggregate .last .0) Out.TooLarge
-    (pairs-stop (ClassAt (c .before .before .before .before .before .before .before .before .before .before .before .args .query .now)
-    (c .before .before .before .before .before .before .before .before .before .before .before .args .keys)
-    (c .before .before .before .before .before .before .before .before .before .before .before .args .first)
-    (c .before .before .before .before .before .before .before .before .before .before .before .args .end)
+    (pairs-stop (ClassAt (c .before .before .before .before .before .before .before .before .before .before .before .args .members)
     (c .before .before .before .before .before .before .before .before .before .before .before .args .built .from))
     (onePart aggregateValue)
     (c .before .before .before .before .before .before .before .before .before .before .before .args .query .now)
@@ -98,10 +91,7 @@ loop-less c =
 
 loop-again : tie.Need-loop-again Inv-loop μ-loop
 loop-again c = (
-  pairs-rest (ClassAt (c .before .before .before .before .before .before .before .before .before .before .before .before .args .query .now)
-      (c .before .before .before .before .before .before .before .before .before .before .before .before .args .keys)
-      (c .before .before .before .before .before .before .before .before .before .before .before .before .args .first)
-      (c .before .before .before .before .before .before .before .before .before .before .before .before .args .end)
+  pairs-rest (ClassAt (c .before .before .before .before .before .before .before .before .before .before .before .before .args .members)
       (c .before .before .before .before .before .before .before .before .before .before .before .before .args .built .from))
       (onePart aggregateValue)
       (c .before .before .before .before .before .before .before .before .before .before .before .before .args .query .now)
@@ -120,10 +110,7 @@ loop-again c = (
       c .before .before .before .before .before .before .before .before .before .loop .inv .1,
   λ u r h. c .before .before .before .before .before .before .before .before .before .loop .inv .2
       u r (pairs-next (ClassAt
-      (c .before .before .before .before .before .before .before .before .before .before .before .before .args .query .now)
-      (c .before .before .before .before .before .before .before .before .before .before .before .before .args .keys)
-      (c .before .before .before .before .before .before .before .before .before .before .before .before .args .first)
-      (c .before .before .before .before .before .before .before .before .before .before .before .before .args .end)
+      (c .before .before .before .before .before .before .before .before .before .before .before .before .args .members)
       (c .before .before .before .before .before .before .before .before .before .before .before .before .args .built .from))
       (onePart aggregateValue)
       (c .before .before .before .before .before .before .before .before .before .before .before .before .args .query .now)
@@ -144,9 +131,7 @@ same-length-2 c = search needs
 returns-2 : tie.Need-returns-2 Inv-loop μ-loop
 returns-2 c =
     c .before .loop .inv .2 (c .before .loop .work) (Out.At (c .before .loop .to))
-    (pairs-done (ClassAt (c .before .before .before .before .args .query .now)
-    (c .before .before .before .before .args .keys)
-    (c .before .before .before .before .args .first) (c .before .before .before .before .args .end)
+    (pairs-done (ClassAt (c .before .before .before .before .args .members)
     (c .before .before .before .before .args .built .from)) (onePart aggregateValue)
     (c .before .before .before .before .args .query .now) (c .before .loop .at)
     (c .before .before .before .before .args .aggregates .to) (c .before .loop .work)
