@@ -76,7 +76,7 @@ fn write(directory: &Path) -> Result<(), Box<dyn Error>> {
 fn profile(kind: &str, size: &str, calls: &str) -> Result<(), Box<dyn Error>> {
     let names = || KINDS.map(|k| k.name).join("; ");
     let kind = KINDS.iter().find(|k| k.name == kind).ok_or_else(|| format!("the kinds are: {}", names()))?;
-    let c = (kind.make)(size.parse()?);
+    let c = (kind.make)(size.parse::<usize>()?.min(kind.most));
     let (mut work, mut result) = (vec![0; 65536], vec![0; 16384]);
     for _ in 0..calls.parse::<usize>()? {
         let _ = black_box(engine(black_box(&c), &mut work, &mut result));

@@ -67,6 +67,15 @@ pub fn with_tables(page: &str, tables: &str) -> Result<String, String> {
 #[cfg(test)]
 mod tests {
     use super::*;
+    use crate::measure::Spread;
+
+    #[test]
+    fn a_kind_with_fewer_sizes_has_dashes() {
+        let ratio = Spread { low: 1.0, median: 1.0, high: 1.0 };
+        let row = || [(); 2].map(|()| Measured { times: [1.0; 3], ratio, growth: [1.0; 2] }).into();
+        let rows = table(&[row()], 1, |m| short(m.ratio.median));
+        assert!(rows.ends_with(" | 1.00 | – | – | – |\n"), "{rows}");
+    }
 
     #[test]
     fn tables_are_replaced_and_the_rest_stays() {
