@@ -2,7 +2,7 @@
 use mathlib.Core.Path.{_≡_}
 use mathlib.Core.List.{List, _∷_, [], _++_, reverse}
 use mathlib.Core.Logic.{_≢_, _⊎_}
-use Prim.Native.Nat.{ℕ, _+_, _≤_}
+use Prim.Native.Nat.{ℕ, _+_, _≤_, _<_}
 use lib.ListN.{drop}
 use Rattle.spec_trees.specs.Limits.{depthMax}
 use Rattle.spec_trees.specs.Tree.{Tree}
@@ -16,7 +16,7 @@ use Rattle.queries.specs.Places.{pairsBytes}
 use Rattle.spec_stages.specs.Group.{alike}
 use Rattle.stream.specs.Map.{treesMax}
 use Rattle.arrange.specs.Links.{Spot, down, passing, firstOf, Walk}
-use Rattle.arrange.specs.Index.{base, backAt, nextAt, headAt, sizeOf, standing, slot, Index, Entering}
+use Rattle.arrange.specs.Index.{base, backAt, nextAt, slots, headAt, sizeOf, standing, slot, Index, Entering, Collected}
 
 -- r is where the head of the tree's slot stands
 abbrev pub HeadIs : (q : List ℕ) (keysAt : Span) (w : List ℕ) (treeAt : Span) → ℕ → Type 0
@@ -61,3 +61,12 @@ pub record Linked (w v : List ℕ) (y x : ℕ) : Type 0 where
 pub record Enters (w v q : List ℕ) (keysAt treeAt : Span) : Type 0 where
   pub beyond : drop base v ≡ drop base w
   pub index : (e : Entering w q keysAt treeAt) → Index v (e .grouping) (e .seen ++ (e .tree ∷ []))
+
+-- ---- no tree is entered, and all are
+pub record Cleared (w v : List ℕ) : Type 0 where
+  pub blank : (h : ℕ) → h < slots → twoAt v (headAt h) ≡ 0
+  pub beyond : drop base v ≡ drop base w
+
+pub record EntersAll (w v q : List ℕ) (keysAt : Span) (n : ℕ) : Type 0 where
+  pub beyond : drop base v ≡ drop base w
+  pub index : (c : Collected w q keysAt n) → Index v (c .grouping) (c .trees)

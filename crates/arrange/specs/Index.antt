@@ -16,8 +16,9 @@ use Rattle.spec_queries.specs.Query.{Pair}
 use Rattle.queries.specs.Places.{pairsBytes, arrayTrees}
 use Rattle.spec_stages.specs.Group.{key, alike, sum}
 use Rattle.spec_stages.specs.Classes.{unlike}
-use Rattle.group.specs.Keys.{FewPairs, keyHash}
-use Rattle.stream.specs.Map.{treesMax, collectorAt}
+use Rattle.group.specs.Keys.{FewPairs}
+use Rattle.group.specs.KeyHash.{keyHash}
+use Rattle.stream.specs.Map.{treesMax}
 use Rattle.arrange.specs.Links.{Spot, spots, Indexed}
 
 -- ---- where the numbers stand
@@ -80,3 +81,14 @@ pub record Entering (w q : List ℕ) (keysAt treeAt : Span) : Type 0 where
   pub tree-ok : Allowed depthMax tree
   pub tree-is : IsAt w treeAt (treeBytes tree)
   pub index : Index w grouping seen
+
+-- ---- all trees of the collected array, of n bytes
+pub record Collected (w q : List ℕ) (keysAt : Span) (n : ℕ) : Type 0 where
+  pub size : length w ≡ workMin
+  pub short : n ≤ treesMax
+  pub grouping : List Pair
+  pub few : FewPairs grouping
+  pub grouping-is : IsAt q keysAt (pairsBytes grouping)
+  pub trees : List Tree
+  pub trees-ok : AllowedA trees
+  pub trees-is : Is w base (base + n) (arrayTrees trees)

@@ -2,6 +2,7 @@
 pub mod Links
 pub mod Index
 pub mod Entering
+pub mod Arrange
 -- Laws.
 pub mod LinksLaws
 pub mod EnterLaws
@@ -11,3 +12,9 @@ pub mod NumberLaws
 pub mod StandingLaws
 pub mod SearchLaws
 pub mod EnteringLaws
+pub mod KeptLaws
+pub mod FrontLaws
+pub mod ClassLaws
+pub mod AllLaws
+pub mod SubsetLaws
+pub mod ArrangeLaws

@@ -18,7 +18,8 @@ use Rattle.spec_queries.specs.Query.{Pair}
 use Rattle.queries.specs.Places.{pairsBytes, HoldsAt}
 use Rattle.spec_stages.specs.Group.{key, alike}
 use Rattle.spec_stages.specs.AlikeLaws.{alike-keys, alike-equivalence}
-use Rattle.group.specs.Keys.{keyHash, AlikeIs}
+use Rattle.group.specs.Keys.{AlikeIs}
+use Rattle.group.specs.KeyHash.{keyHash}
 use Rattle.stream.specs.Map.{treesMax}
 use Rattle.arrange.specs.Links.{Spot, spots, end, down, Rising, passing, firstOf, Walk}
 use Rattle.arrange.specs.LinksLaws.{search}

@@ -66,6 +66,7 @@ all-stood [] o h l u = tt
 all-stood {w} {a} {e} (t ∷ ts) o h l u =
     let k = subst (Is w a e) (trees-cons t ts) h in
     let n = h .ends in
-    let m = length-cons t ts in
-    (record { ok = o .0; stands = is-left (treeBytes t) (arrayTrees ts) refl k; above = l; within = omega arith },
-     all-stood ts (o .1) (is-right (treeBytes t) (arrayTrees ts) refl k) (omega arith) u)
+    let m = length-cons t ts in (
+      record { ok = o .0; stands = is-left (treeBytes t) (arrayTrees ts) refl k; above = l; within = omega arith },
+      all-stood ts (o .1) (is-right (treeBytes t) (arrayTrees ts) refl k) (omega arith) u,
+    )

@@ -11,9 +11,10 @@ ghost use Rattle.spec_trees.specs.Limits.{workMin};
 ghost use Rattle.spec_trees.specs.Bytes.{treeBytes};
 ghost use Rattle.queries.specs.Places.{pairsBytes, HoldsAt};
 ghost use Rattle.stream.specs.Map.{treesMax};
-ghost use Rattle.arrange.specs.Index.{base, mark, Entering};
-ghost use Rattle.arrange.specs.Entering.{HeadIs, Search, LastIs, Linked, Enters};
+ghost use Rattle.arrange.specs.Index.{base, mark, Entering, Collected};
+ghost use Rattle.arrange.specs.Entering.{HeadIs, Search, LastIs, Linked, Enters, Cleared, EntersAll};
 use crate::index::Index;
+use areas::area::clear;
 use areas::area::field_end;
 use areas::number::put_two;
 use areas::number::two_at;
@@ -85,4 +86,27 @@ fn enter(work: &mut [u8], query: &[u8], keys: Span, tree: Span)
     put_two(work, at - Index::MARK, mark);
     put_two(work, head, at);
     link(work, like, at);
+}
+
+/// No tree is entered yet.
+fn clear_heads(work: &mut [u8])
+    requires { ⌜ length (now work) ≡ workMin ⌝ }
+    ensures { λ _. ⌜ Cleared (now (work .entry)) (now (work .exit)) ⌝ }
+{
+    clear(&mut work[Index::HEADS..Index::TREES]);
+}
+
+/// Enters the collected trees, which take `len` bytes.
+pub fn enter_all(work: &mut [u8], query: &[u8], keys: Span, len: usize)
+    requires { ⌜ Collected (now work) (now query) keys len ⌝ }
+    ensures { λ _. ⌜ EntersAll (now (work .entry)) (now (work .exit)) (now (query .entry)) keys len ⌝ }
+{
+    clear_heads(work);
+    let end = Index::TREES + len;
+    let mut at = Index::TREES;
+    while at != end {
+        let m = field_end(work, at);
+        enter(work, query, keys, Span { from: at, to: m });
+        at = m;
+    }
 }

@@ -2,8 +2,9 @@
 use mathlib.Core.Path.{_≡_, refl, sym, ap, subst, _∙_}
 use mathlib.Core.List.{List, [], _∷_}
 use mathlib.Core.Bool.{Bool, true, false, cond, _&&_}
-use Prim.Native.Nat.{ℕ, _+_, _*_, _≤_}
+use Prim.Native.Nat.{ℕ, suc, _+_, _*_, _^_, _≤_}
 use native.Mathlib.Omega.{arith}
+use native.Mathlib.Numerals.{unary-clauses}
 use lib.ListN.{length}
 use Rattle.spec_trees.specs.Limits.{groupingMax}
 use Rattle.spec_trees.specs.Bytes.{treeBytes}
@@ -20,7 +21,7 @@ use Rattle.spec_stages.specs.Paths.{present, apply}
 use Rattle.spec_stages.specs.Group.{key, sameKey, sum, alike}
 use Rattle.paths.specs.Walk.{Walk, Tells, application, EqualPaths}
 use Rattle.paths.specs.WalkLaws.{walk-at}
-use Rattle.group.specs.Keys.{FewPairs, SourcedIs, SameSourceIs, SubsetIs, AlikeIs}
+use Rattle.group.specs.Keys.{FewPairs, SourcedIs, SameSourceIs, SubsetIs, AlikeIs, SubsetsIs}
 
 -- ---- the source of a pair
 pub pair-source : {q : List ℕ} {p e : ℕ} {x : Pair} {r : PairAt} → PairIs q (span p e) x r → IsAt q (r .source) (routeBytes (x .source))
@@ -123,3 +124,25 @@ module _ (q : List ℕ) (at ge : ℕ) (s : List ℕ) (a b : ℕ) (s2 : List ℕ)
         let c = list-parts pairF gs z k g in
         j (c .rest) t u (c .rest-is) ot h ou i
         ∙ sym (ap (λ w. w && alike (c .rest) t u) (sym (d (c .first) t u (c .first-is) ot h ou i) ∙ y)) ∙ sym (ap (λ l. alike l t u) (c .same))
+
+-- ---- the subsets: two for each pair, multiplied
+doubled : (c n : ℕ) → n * (2 * c) ≡ (n + n) * c
+doubled c n = omega arith
+
+module _ (q : List ℕ) (g at h n : ℕ) (inv : (c : ℕ) → SubsetsIs q (span at h) c → SubsetsIs q (span g h) (n * c)) where
+  pub subsets-end : at ≡ h → SubsetsIs q (span g h) n
+  subsets-end z = let y : n * 1 ≡ n = omega arith in subst (SubsetsIs q (span g h)) y (inv 1 (λ gs k. subst (λ l. 1 ≡ 2 ^ length l) (sym (list-none pairF gs z k)) refl))
+
+  pub subsets-on : {m : ℕ} → (at ≡ h → ⊥) → m ≡ fieldEnd q at → (c : ℕ) → SubsetsIs q (span m h) c → SubsetsIs q (span g h) ((n + n) * c)
+  subsets-on {m} ne z c k = subst (SubsetsIs q (span g h)) (doubled c n) (inv (2 * c) twice)
+    where
+      twice : SubsetsIs q (span at h) (2 * c)
+      twice gs y =
+          let p = list-parts pairF gs z ne y in
+          ap (λ i. 2 * i) (k (p .rest) (p .rest-is)) ∙ power (length (p .rest)) ∙ sym (ap (λ l. 2 ^ length l) (p .same))
+        where
+          power : (i : ℕ) → 2 * 2 ^ i ≡ 2 ^ suc i
+          power i = simp unary-clauses (omega arith)
+
+pub subsets-start : (q : List ℕ) (g h c : ℕ) → SubsetsIs q (span g h) c → SubsetsIs q (span g h) (1 * c)
+subsets-start q g h c k = let y : c ≡ 1 * c = omega arith in subst (SubsetsIs q (span g h)) y k

@@ -2,7 +2,7 @@
 use mathlib.Core.Path.{_≡_}
 use mathlib.Core.List.{List}
 use mathlib.Core.Bool.{Bool}
-use Prim.Native.Nat.{ℕ, _≤_}
+use Prim.Native.Nat.{ℕ, _^_, _≤_}
 use lib.ListN.{length}
 use Rattle.spec_trees.specs.Tree.{Tree}
 use Rattle.spec_trees.specs.Bytes.{treeBytes}
@@ -41,3 +41,7 @@ abbrev pub AlikeIs : (q : List ℕ) (keysAt : Span) (s : List ℕ) (treeAt : Spa
 AlikeIs q keysAt s treeAt s2 treeAt2 r =
     (gs : List Pair) (t u : Tree) → IsAt q keysAt (pairsBytes gs) → Allowed depthMax t → IsAt s treeAt (treeBytes t)
     → Allowed depthMax u → IsAt s2 treeAt2 (treeBytes u) → r ≡ alike gs t u
+
+-- r is how many subsets the grouping pairs have, whatever pairs stand there
+abbrev pub SubsetsIs : (q : List ℕ) (keysAt : Span) → ℕ → Type 0
+SubsetsIs q keysAt r = (gs : List Pair) → IsAt q keysAt (pairsBytes gs) → r ≡ 2 ^ length gs

@@ -7,7 +7,7 @@ ghost use mathlib.Core.Bool.{cond};
 ghost use Prim.Native.Nat.{_≤_, _<_};
 ghost use Rattle.spec_trees.specs.Bytes.{treeBytes};
 ghost use Rattle.queries.specs.Places.{pairBytes, pairsBytes, HoldsAt, OkAt};
-ghost use Rattle.group.specs.Keys.{FewPairs, SourcedIs, SameSourceIs, SubsetIs, AlikeIs};
+ghost use Rattle.group.specs.Keys.{FewPairs, SourcedIs, SameSourceIs, SubsetIs, AlikeIs, SubsetsIs};
 ghost use Rattle.group.specs.KeyHash.{SourceHashIs, KeyHashIs};
 ghost use Rattle.paths.specs.Hash.{hashLimit};
 use areas::area::field_end;
@@ -116,4 +116,19 @@ pub fn key_hash(query: &[u8], keys: Span, area: &[u8], tree: Span) -> usize
         at = m;
     }
     h
+}
+
+/// How many subsets the grouping pairs have: 2 for each pair, multiplied.
+pub fn subsets(query: &[u8], keys: Span) -> usize
+    requires { ⌜ OkAt FewPairs pairsBytes (now query) keys ⌝ }
+    ensures { λ r. ⌜ SubsetsIs (now (query .entry)) keys r ⌝ }
+{
+    let end = keys.to;
+    let mut n: usize = 1;
+    let mut at = keys.from;
+    while at != end {
+        n = n + n;
+        at = field_end(query, at);
+    }
+    n
 }

@@ -61,28 +61,6 @@ use Rattle.stretches.specs.Stretch.{Gathered, GroupReady, GroupPost, thr
 use Rattle.stretches.specs.FirstLaws.{open-nothing, shows-all}
 use Rattle.stretches.specs.Grouping.{SubsetsIs, begun, ClassFrom, ClassFed, SubsetReady, SubsetFed}
 
--- ---- the subsets: two for each pair, multiplied
-doubled : (c n : ℕ) → n * (2 * c) ≡ (n + n) * c
-doubled c n = omega arith
-
-module _ (q : List ℕ) (g at h n : ℕ) (inv : (c : ℕ) → SubsetsIs q (span at h) c → SubsetsIs q (span g h) (n * c)) where
-  pub subsets-end : at ≡ h → SubsetsIs q (span g h) n
-  subsets-end z = let y : n * 1 ≡ n = omega arith in subst (SubsetsIs q (span g h)) y (inv 1 (λ gs k. subst (λ l. 1 ≡ 2 ^ length l) (sym (list-none pairF gs z k)) refl))
-
-  pub subsets-on : {m : ℕ} → (at ≡ h → ⊥) → m ≡ fieldEnd q at → (c : ℕ) → SubsetsIs q (span m h) c → SubsetsIs q (span g h) ((n + n) * c)
-  subsets-on {m} ne z c k = subst (SubsetsIs q (span g h)) (doubled c n) (inv (2 * c) twice)
-    where
-      twice : SubsetsIs q (span at h) (2 * c)
-      twice gs y =
-          let p = list-parts pairF gs z ne y in
-          ap (λ i. 2 * i) (k (p .rest) (p .rest-is)) ∙ power (length (p .rest)) ∙ sym (ap (λ l. 2 ^ length l) (p .same))
-        where
-          power : (i : ℕ) → 2 * 2 ^ i ≡ 2 ^ suc i
-          power i = simp unary-clauses (omega arith)
-
-pub subsets-start : (q : List ℕ) (g h c : ℕ) → SubsetsIs q (span g h) c → SubsetsIs q (span g h) (1 * c)
-subsets-start q g h c k = let y : c ≡ 1 * c = omega arith in subst (SubsetsIs q (span g h)) y k
-
 -- ---- the tree of a class is allowed
 built-ok : (s : Tree) (ts : List Tree) {y : Tree} → Ok s → All Ok ts → build s ts ≡ some y → Ok y
 unfolding build

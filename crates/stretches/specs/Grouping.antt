@@ -23,10 +23,6 @@ use Rattle.stream.specs.Feed.{Planned}
 use Rattle.stretches.specs.declared.next.StretchAt.{StretchAt}
 use Rattle.stretches.specs.Stretch.{Gathered, GroupReady, through}
 
--- r is how many subsets the grouping pairs have, whatever pairs stand there
-abbrev pub SubsetsIs : (q : List ℕ) (keysAt : Span) → ℕ → Type 0
-SubsetsIs q keysAt r = (gs : List Pair) → IsAt q keysAt (pairsBytes gs) → r ≡ 2 ^ length gs
-
 -- ---- one tree of the array
 
 -- the class of the subset k that begins at t, if one does: seen are the trees before it, ts those behind it

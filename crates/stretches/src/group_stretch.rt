@@ -18,21 +18,6 @@ use stream::collector::is_large;
 use stream::feed::feed;
 use stream::map::Map;
 
-/// How many subsets the grouping pairs have: 2 for each pair, multiplied.
-fn subsets(query: &[u8], keys: Span) -> usize
-    requires { ⌜ OkAt FewPairs pairsBytes (now query) keys ⌝ }
-    ensures { λ r. ⌜ SubsetsIs (now (query .entry)) keys r ⌝ }
-{
-    let end = keys.to;
-    let mut n: usize = 1;
-    let mut at = keys.from;
-    while at != end {
-        n = n + n;
-        at = field_end(query, at);
-    }
-    n
-}
-
 /// The class of the subset that begins at the first of these trees of the array, if one does: its tree is built and
 /// goes through the stages.
 fn feed_class<'a>(

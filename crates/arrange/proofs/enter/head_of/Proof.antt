@@ -24,7 +24,7 @@ returns c = (
   omega arith,
   omega arith,
   λ gs t h k. ap (λ n. headAt (n % slots))
-      (c .key-hash .ensures .1 gs t h k),
+      (c .key-hash .ensures .0 gs t h k),
 )
 
 pub head-of-spec : {M : Type 1} → statement M

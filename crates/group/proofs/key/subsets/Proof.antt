@@ -6,13 +6,20 @@ use Rattle.spec_queries.specs.Bytes.{pairF}
 use Rattle.areas.specs.Area.{span}
 use Rattle.queries.specs.Places.{pairsBytes, HoldsOk}
 use Rattle.queries.specs.PartLaws.{holds-of, list-places}
-use Rattle.group.specs.KeyLaws.{WeightFits, weighed-first, weighed-small, weighed-next}
-use Rattle.stretches.specs.Grouping.{SubsetsIs}
-use Rattle.stretches.specs.GroupLaws.{subsets-start, subsets-on, subsets-end}
-use Rattle.stretches.proofs.group_stretch.subsets.Statement.{statement}
-use Rattle.stretches.proofs.group_stretch.subsets.Tie as tie
-use Rattle.stretches.proofs.group_stretch.subsets.Reads as reads
-use Rattle.stretches.proofs.group_stretch.subsets.Lts as lts
+use Rattle.group.specs.KeyLaws.{
+  WeightFits,
+  weighed-first,
+  weighed-small,
+  weighed-next,
+  subsets-start,
+  subsets-on,
+  subsets-end,
+}
+use Rattle.group.specs.Keys.{SubsetsIs}
+use Rattle.group.proofs.key.subsets.Statement.{statement}
+use Rattle.group.proofs.key.subsets.Tie as tie
+use Rattle.group.proofs.key.subsets.Reads as reads
+use Rattle.group.proofs.key.subsets.Lts as lts
 use Rattle.areas.proofs.area.field_end.Reads as field-end-reads
 
 abbrev Inv-loop : tie.InvT-loop
