@@ -1,5 +1,5 @@
 -- The first stretch and the later ones come to what the plain run's stages come to.
-use mathlib.Core.Path.{_≡_, refl, sym, subst, _∙_}
+use mathlib.Core.Path.{_≡_, refl, sym, ap, subst, _∙_}
 use mathlib.Core.List.{List}
 use Prim.Native.Nat.{ℕ}
 use native.Mathlib.Omega.{arith}
@@ -9,6 +9,7 @@ use Rattle.spec_trees.specs.Lists.{All}
 use Rattle.spec_trees.specs.ListLaws.{All-left}
 use Rattle.spec_trees.specs.Tree.{Tree}
 use Rattle.spec_trees.specs.Bytes.{arrayBytes}
+use Rattle.spec_trees.specs.SizeLaws.{length-array}
 use Rattle.spec_trees.specs.Within.{Within, AllowedA}
 use Rattle.spec_queries.specs.Query.{Stage}
 use Rattle.spec_queries.specs.Bytes.{queryBytes}
@@ -36,6 +37,7 @@ module _ {q : List ℕ} {x : Span} (reads : ReadsQuery q x) where
     pub all-first : FirstReady i w q x j
     all-first = record {
       input = record { value = h .input; allowed = h .input-ok .allowed; value-is = array-reads i (h .input) (h .input-is) };
+      short = omega (arith, ap length (h .input-is), length-array (h .input), h .input-ok .small);
       list = h .query;
       joined = h .joined;
       planned = plan (h .query) (h .joined) (h .query-is) (h .query-ok) (h .joined-is) (h .joined-ok);

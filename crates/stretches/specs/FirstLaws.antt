@@ -1,7 +1,8 @@
--- Laws of the first stretch: what is right for the trees that are left is right for all.
-use mathlib.Core.Path.{_≡_, refl, sym, ap, subst, _∙_}
+-- Laws of the first stretch: without a stage the trees are collected as they are; else what is right for the trees that
+-- are left is right for all.
+use mathlib.Core.Path.{_≡_, refl, sym, ap, ap₂, subst, _∙_}
 use mathlib.Core.List.{List, [], _∷_}
-use mathlib.Core.Bool.{true, false}
+use mathlib.Core.Bool.{Bool, true, false}
 use Prim.Native.Nat.{ℕ, _+_, _-_, _≤_}
 use native.Mathlib.Omega.{arith}
 use lib.ListN.{length, take, drop}
@@ -12,23 +13,27 @@ use Rattle.spec_trees.specs.Tree.{Tree}
 use Rattle.spec_trees.specs.SizeLaws.{length-tree}
 use Rattle.spec_trees.specs.Bytes.{treeBytes}
 use Rattle.spec_trees.specs.Within.{Allowed, AllowedA}
-use Rattle.areas.specs.Area.{Is, Wrote, fieldEnd}
+use Rattle.areas.specs.Area.{Is, Wrote, fieldEnd, span}
 use Rattle.areas.specs.declared.span.Span.{Span}
 use Rattle.areas.specs.AreaLaws.{is-part, told, written}
+use Rattle.format.specs.Stand.{Says}
 use Rattle.spec_queries.specs.Query.{Stage}
-use Rattle.queries.specs.Places.{arrayTrees, HoldsOk}
-use Rattle.spec_stages.specs.Stages.{State, going, stages}
+use Rattle.spec_queries.specs.Bytes.{stageF}
+use Rattle.queries.specs.Places.{arrayTrees, stageBytes, stagesBytes, HoldsOk, HoldsAt, ReadsStage}
+use Rattle.queries.specs.PartLaws.{list-parts, list-none}
+use Rattle.queries.specs.declared.stage.StageAt.{StageAt}
+use Rattle.spec_stages.specs.Stages.{isGroup, State, going, stages}
 use Rattle.stream.specs.declared.collector.Collector.{Collector}
 use Rattle.stream.specs.declared.collector.Collector.the-variants.{Len, Large}
 use Rattle.spec_stages.specs.Stretch.{before}
-use Rattle.spec_stages.specs.StretchLaws.{before-free}
-use Rattle.stream.specs.Map.{tailMin}
-use Rattle.stream.specs.Collector.{isLarge, ends, Collects, Open, Feeds}
+use Rattle.spec_stages.specs.StretchLaws.{before-free, before-none, before-group}
+use Rattle.stream.specs.Map.{treesMax, collectorAt, tailMin}
+use Rattle.stream.specs.Collector.{isLarge, ends, Collects, Open, Fed, Feeds}
 use Rattle.stream.specs.CollectorLaws.{feeds-move, feeds-more, feeds-stop, feeds-none, feeds-open}
 use Rattle.stream.specs.TailLaws.{ends-beyond}
 use Rattle.stream.specs.Feed.{Planned, Front, FeedReady, FeedPost}
 use Rattle.queries.specs.TreesLaws.{array-parts, array-none}
-use Rattle.stretches.specs.Stretch.{Shows, FirstReady, FirstPost}
+use Rattle.stretches.specs.Stretch.{isGroupAt, noneBefore, Shows, FirstReady, FirstPost}
 
 -- ---- from nothing
 pub open-nothing : Open (Len 0)
@@ -41,6 +46,58 @@ collects-nothing w = (refl, omega arith, refl)
 
 pub shows-all : {w v : List ℕ} {r : Collector} {st : State} → Feeds w (Len 0) v r st → Shows v r st
 shows-all {w} f = record { fed = f .fed [] (collects-nothing w) }
+
+-- ---- no stage before the first group
+group-at : {q : List ℕ} {p m : ℕ} {x : StageAt} → ReadsStage q (span p m) x → (s : Stage) → Is q p m (stageBytes s) → isGroupAt x ≡ isGroup s
+unfolding isGroup
+group-at {x = x} reads s h = go x refl
+  where
+    go : (x2 : StageAt) → x ≡ x2 → isGroupAt x2 ≡ isGroup s
+    go (StageAt.Match f) w = sym (ap isGroup (reads s h .match-is f w .same))
+    go (StageAt.Unwind f) w = sym (ap isGroup (reads s h .unwind-is f w .same))
+    go (StageAt.Project f) w = sym (ap isGroup (reads s h .project-is f w .same))
+    go (StageAt.Group f) w = sym (ap isGroup (reads s h .group-is f w .same))
+    go (StageAt.Lookup f) w = sym (ap isGroup (reads s h .lookup-is f w .same))
+
+module _ {q : List ℕ} {p e : ℕ} where
+  pub none-end : p ≡ e → Says stagesBytes noneBefore q p e true
+  none-end z ss h = sym (ap noneBefore (list-none stageF ss z h))
+
+  pub none-first : {m : ℕ} {x : StageAt} {r : Bool} → (p ≡ e → ⊥) → m ≡ fieldEnd q p → ReadsStage q (span p m) x → r ≡ isGroupAt x
+      → Says stagesBytes noneBefore q p e r
+  none-first n z reads k ss h =
+      let c = list-parts stageF ss z n h in
+      k ∙ group-at reads (c .first) (c .first-is) ∙ sym (ap noneBefore (c .same))
+
+none-before : (ss : List Stage) → noneBefore ss ≡ true → before ss ≡ []
+none-before [] e = before-none
+none-before (s ∷ ss) e = before-group s ss e
+
+-- the trees of the input stand where the collector begins
+module _ {inp w q : List ℕ} {p : Span} {j : List ℕ} (h : FirstReady inp w q p j) where
+  pub first-stages : HoldsAt stagesBytes q p
+  first-stages = record { value = h .list; value-is = h .planned .stages-is }
+
+  module _ {v : List ℕ} {o : Out} (l : length v ≡ length w)
+      (k : Wrote w v (collectorAt (length w)) (collectorAt (length w) + treesMax) (take (length inp - 3) (drop 3 inp)) o) where
+    collects-input : (ts : List Tree) → Is inp 3 (length inp) (arrayTrees ts) → Collects v (Len (length inp - 3)) (arrayTrees ts)
+    unfolding Collects
+    collects-input ts t =
+        let base = collectorAt (length w) in
+        let f : Wrote w v base (base + treesMax) (arrayTrees ts) o = subst (λ x. Wrote w v base (base + treesMax) x o) (is-part t) k in
+        let n : length inp - 3 ≡ length (arrayTrees ts) = omega (arith, t .ends) in
+        told o
+        (λ y z.
+        let i = written f (omega arith) z in
+        let m : length inp - 3 ≡ y - base = omega (arith, i .ends) in
+        (n, omega (arith, h .short), ap₂ (λ a b. take a (drop (collectorAt b) v)) m l ∙ is-part i))
+        (λ z. absurd (omega (arith, f .large z .over, h .short)))
+
+    pub first-copied : {r : Bool} → r ≡ true → Says stagesBytes noneBefore q (p .from) (p .to) r → FirstPost inp v q p j (Len (length inp - 3))
+    unfolding Fed stages
+    first-copied z none ts ss us a t d =
+        let b = none-before ss (sym (none ss (d .stages-is)) ∙ z) in
+        record { fed = subst (λ y. Fed v (Len (length inp - 3)) [] (stages us y (going ts))) (sym b) (collects-input ts t) }
 
 -- ---- the trees from i on
 abbrev pub FirstFrom : (inp w : List ℕ) (s : Collector) (v q : List ℕ) (p : Span) (j : List ℕ) (i : ℕ) → Collector → Type 0

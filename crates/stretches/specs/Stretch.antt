@@ -1,9 +1,10 @@
 -- What the functions of a stretch ask of the areas, and what they do: the trees of an array go through the stages up
 -- to the next group, or are grouped, and the trees of the classes go on so.
-use mathlib.Core.List.{List, []}
+use mathlib.Core.List.{List, [], _∷_}
+use mathlib.Core.Bool.{Bool, true, false}
 use Prim.Native.Nat.{ℕ, _+_, _≤_}
 use lib.ListN.{length}
-use Rattle.spec_trees.specs.Limits.{workMin}
+use Rattle.spec_trees.specs.Limits.{arrayMax, workMin}
 use Rattle.spec_trees.specs.Lists.{each}
 use Rattle.spec_trees.specs.Tree.{Tree}
 use Rattle.spec_trees.specs.Within.{AllowedA}
@@ -11,8 +12,9 @@ use Rattle.areas.specs.Area.{Is}
 use Rattle.areas.specs.declared.span.Span.{Span}
 use Rattle.spec_queries.specs.Query.{Pair, Stage}
 use Rattle.queries.specs.Places.{arrayTrees, HoldsOk, Pairs}
+use Rattle.queries.specs.declared.stage.StageAt.{StageAt}
 use Rattle.spec_stages.specs.Group.{Class, classTree, grouped}
-use Rattle.spec_stages.specs.Stages.{State, going, after, stages}
+use Rattle.spec_stages.specs.Stages.{isGroup, State, going, after, stages}
 use Rattle.stream.specs.declared.collector.Collector.{Collector}
 use Rattle.stretches.specs.declared.next.StretchAt.{StretchAt}
 use Rattle.spec_stages.specs.Stretch.{before}
@@ -25,9 +27,22 @@ pub record Shows (v : List ℕ) (r : Collector) (st : State) : Type 0 where
   pub fed : Fed v r [] st
 
 -- ---- the first stretch
--- the trees of the input stand in i behind its head, stages in q, the joined trees in j
+-- whether a stage is a group, and whether none stands before the first group
+abbrev pub isGroupAt : StageAt → Bool
+isGroupAt (StageAt.Match f) = false
+isGroupAt (StageAt.Unwind f) = false
+isGroupAt (StageAt.Project f) = false
+isGroupAt (StageAt.Group f) = true
+isGroupAt (StageAt.Lookup f) = false
+
+abbrev pub noneBefore : List Stage → Bool
+noneBefore [] = true
+noneBefore (s ∷ ss) = isGroup s
+
+-- the trees of the input, an array within its limit, stand in i behind its head, stages in q, the joined trees in j
 pub record FirstReady (i w q : List ℕ) (stagesAt : Span) (j : List ℕ) : Type 0 where
   pub input : HoldsOk AllowedA arrayTrees i 3 (length i)
+  pub short : length i ≤ arrayMax
   pub list : List Stage
   pub joined : List Tree
   pub planned : Planned q stagesAt j list joined
