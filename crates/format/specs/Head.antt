@@ -12,6 +12,10 @@ use Rattle.format.specs.declared.head.Head.the-variants.{Field, Nothing}
 abbrev pub lenAt : List ℕ → ℕ → ℕ
 lenAt s at = getD s (at + 1) 0 * 256 + getD s (at + 2) 0
 
+-- the two bytes at `at` as a number, low byte first
+abbrev pub lowTwo : List ℕ → ℕ → ℕ
+lowTwo s at = getD s at 0 + getD s (at + 1) 0 * 256
+
 -- the first field of these bytes, which stand at `at`
 unfoldable pub firstField : ℕ → List ℕ → Head
 firstField at [] = Nothing

@@ -1,6 +1,7 @@
 -- Made from Proof.ans by answers.py, which overwrites this file: edit Proof.ans.
 use denote.Ref.{now}
 use native.Mathlib.Omega.{arith}
+use Prim.Native.Nat.{_+_, _≤_, _<_}
 use Rattle.format.specs.HeadLaws.{head-short, head-over, head-field}
 use mathlib.Core.Path.{sym}
 use borrow.Author.Needs.{needs}
@@ -18,35 +19,37 @@ returns c =
     sym (head-short (now (c .before .before .args .area)) (c .before .before .args .at)
     (c .before .before .args .end) (c .before .before .pre .1) (c .if1 .taken))
 
-len-at-requires : tie.Need-len-at-requires
-len-at-requires c κs = search needs
-
 add-from : tie.Need-add-from
 add-from c = search needs
 
-sub-if2 : tie.Need-sub-if2
-sub-if2 c = search needs
+len-at-requires : tie.Need-len-at-requires
+len-at-requires c κs = search needs
+
+add-to : tie.Need-add-to
+add-to c = search needs
 
 returns-2 : tie.Need-returns-2
 returns-2 c =
+    let q : c .before .before .before .before .args .end <
+    c .before .before .before .before .args .at + 3 + c .before .len-at .result = c .if2 .taken in
     sym (head-over (now (c .before .before .before .before .args .area))
     (c .before .before .before .before .args .at) (c .before .before .before .before .args .end)
     (c .before .before .before .before .pre .1) (c .before .len-at .result) (omega arith)
-    (c .before .len-at .ensures .0) (c .if2 .taken))
+    (c .before .len-at .ensures .0) (omega (arith, q)))
 
 shared-slice-read-t9 : tie.Need-shared-slice-read-t9
 shared-slice-read-t9 c = search needs
 
-add-t6 : tie.Need-add-t6
-add-t6 c = search needs
-
 returns-3 : tie.Need-returns-3
 returns-3 c =
-    sym (head-field (now (c .before .before .before .before .before .args .area))
+    let q : c .before .before .before .before .before .args .at + 3 +
+    c .before .before .len-at .result ≤ c .before .before .before .before .before .args .end =
+    c .before .if2 .left in sym
+    (head-field (now (c .before .before .before .before .before .args .area))
     (c .before .before .before .before .before .args .at)
     (c .before .before .before .before .before .args .end)
     (c .before .before .before .before .before .pre .1) (c .before .before .len-at .result)
-    (omega arith) (c .before .before .len-at .ensures .0) (c .before .if2 .left))
+    (omega arith) (c .before .before .len-at .ensures .0) (omega (arith, q)))
 
 pub head-at-spec : {M : Type 1} → statement M
 head-at-spec =
@@ -54,10 +57,9 @@ head-at-spec =
     (tie.spec
     sub-if1
     returns
-    len-at-requires
     add-from
-    sub-if2
+    len-at-requires
+    add-to
     returns-2
     shared-slice-read-t9
-    add-t6
     returns-3)
