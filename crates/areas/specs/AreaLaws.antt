@@ -50,6 +50,20 @@ module _ {w : List ℕ} {p e : ℕ} {xs : List ℕ} (h : Is w p e xs) where
         inside = omega (arith, h .inside, simp length-take at (ap length q));
       }
 
+-- what stands from d on stays where all from d on stays
+pub is-beyond : {w v : List ℕ} {p e : ℕ} {xs : List ℕ} (d : ℕ) → Is w p e xs → drop d v ≡ drop d w → length v ≡ length w → d ≤ p → Is v p e xs
+is-beyond {w} {v} {p} {e} {xs} d h k l b =
+    let z : p + (e - p) ≡ e = omega (arith, h .ends) in
+    let i = h .inside in
+    let j = h .ends in
+    record {
+      lies =
+          ap (λ m. slice p m v) (sym z) ∙ slice-part v p (e - p) (omega arith) ∙ ap (take (e - p)) (drop-more w v d p b k)
+          ∙ sym (slice-part w p (e - p) (omega arith)) ∙ ap (λ m. slice p m w) z ∙ h .lies;
+      ends = h .ends;
+      inside = omega arith;
+    }
+
 -- two parts, one behind the other
 module _ {w : List ℕ} {p e m : ℕ} (xs ys : List ℕ) (q : m ≡ p + length xs) (h : Is w p e (xs ++ ys)) where
   halves : e ≡ m + length ys

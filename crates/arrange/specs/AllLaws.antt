@@ -13,6 +13,7 @@ use Rattle.spec_trees.specs.Bytes.{bytes, treeFs, treeBytes}
 use Rattle.spec_trees.specs.Within.{Allowed, AllowedA}
 use Rattle.areas.specs.Area.{Is, fieldEnd, span}
 use Rattle.areas.specs.declared.span.Span.{Span}
+use Rattle.areas.specs.AreaLaws.{is-beyond}
 use Rattle.areas.specs.Number.{twoAt}
 use Rattle.queries.specs.Places.{arrayTrees}
 use Rattle.queries.specs.TreesLaws.{ArrayParts, array-parts, array-none, array-behind}
@@ -22,7 +23,6 @@ use Rattle.stream.specs.Map.{treesMax}
 use Rattle.arrange.specs.Links.{spots, passing, offset, firstOf}
 use Rattle.arrange.specs.Index.{base, slots, headAt, standing, Index, Entering, Collected}
 use Rattle.arrange.specs.Entering.{Enters, Cleared, EntersAll}
-use Rattle.arrange.specs.KeptLaws.{is-beyond}
 use Rattle.arrange.specs.StandingLaws.{length-none}
 
 -- ---- the heads are cleared: a part of the area came back as zeros

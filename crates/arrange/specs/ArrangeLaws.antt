@@ -15,6 +15,7 @@ use Rattle.spec_trees.specs.SizeLaws.{length-treeFs}
 use Rattle.spec_trees.specs.Within.{AllowedA}
 use Rattle.areas.specs.Area.{Is}
 use Rattle.areas.specs.declared.span.Span.{Span}
+use Rattle.areas.specs.AreaLaws.{is-beyond}
 use Rattle.spec_queries.specs.Query.{Pair}
 use Rattle.queries.specs.Places.{arrayTrees}
 use Rattle.paths.specs.ComparedLaws.{is-none}
@@ -30,7 +31,7 @@ use Rattle.arrange.specs.declared.arrange.Filled.{Filled}
 use Rattle.arrange.specs.Index.{base, Index, Collected}
 use Rattle.arrange.specs.Entering.{EntersAll}
 use Rattle.arrange.specs.Arrange.{arranged, treesOf, numberBytes, numbersAt, indexAt, Front, Room, Grows, Subset, SubsetArranged, Arranged}
-use Rattle.arrange.specs.KeptLaws.{is-beyond, index-kept}
+use Rattle.arrange.specs.KeptLaws.{index-kept}
 use Rattle.arrange.specs.FrontLaws.{length-both, arranged-trees, arranged-both, grows-none, grows-then}
 
 -- ---- the classes of the subsets below k

@@ -9,6 +9,7 @@ use Rattle.spec_trees.specs.Limits.{workMin}
 use Rattle.spec_trees.specs.Tree.{Tree}
 use Rattle.spec_trees.specs.Bytes.{treeBytes}
 use Rattle.areas.specs.Area.{Is, fieldEnd, span}
+use Rattle.areas.specs.AreaLaws.{is-beyond}
 use Rattle.areas.specs.Number.{twoAt}
 use Rattle.queries.specs.Places.{arrayTrees, HoldsAt}
 use Rattle.stream.specs.Map.{treesMax}
@@ -18,9 +19,8 @@ use Rattle.arrange.specs.IndexLaws.{walk-ended, walk-on}
 use Rattle.arrange.specs.Index.{base, nextAt, sizeOf}
 use Rattle.arrange.specs.Entering.{Stood}
 use Rattle.arrange.specs.Arrange.{numbered, treesOf, indexAt, Room, Grows, Placed, Following}
-use Rattle.arrange.specs.NumberLaws.{two-above}
+use Rattle.areas.specs.NumberLaws.{two-above}
 use Rattle.arrange.specs.StandingLaws.{six, length-cons, length-none, tree-end}
-use Rattle.arrange.specs.KeptLaws.{is-beyond}
 use Rattle.arrange.specs.FrontLaws.{grows-none, grows-then}
 
 -- some trees are copied, and the links lead through those that are left

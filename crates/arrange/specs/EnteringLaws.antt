@@ -32,7 +32,7 @@ use Rattle.arrange.specs.SpotsLaws.{spots-append, spots-elements, first-
 use Rattle.arrange.specs.IndexLaws.{rising-below, spots-entered}
 use Rattle.arrange.specs.Index.{base, backAt, nextAt, markAt, slots, headAt, sizeOf, standing, slot, mark, Marks, Index, Entering}
 use Rattle.arrange.specs.Entering.{lastLike, Stood, Linked, Enters}
-use Rattle.arrange.specs.NumberLaws.{Put, put}
+use Rattle.areas.specs.NumberLaws.{Put, put}
 use Rattle.arrange.specs.StandingLaws.{six, all-stood}
 use Rattle.arrange.specs.SearchLaws.{slot-below, end-seen, rising, places}
 

@@ -12,7 +12,7 @@ use Rattle.spec_trees.specs.Bytes.{bytes, treeFs, treeBytes}
 use Rattle.areas.specs.Area.{Is, IsAt, Wrote, span}
 use Rattle.areas.specs.declared.area.Out.the-variants.{At}
 use Rattle.areas.specs.declared.span.Span.{Span}
-use Rattle.areas.specs.AreaLaws.{is-keep, is-join, is-copied, wrote-keep, wrote-beyond, written, drop-more}
+use Rattle.areas.specs.AreaLaws.{is-beyond, is-keep, is-join, is-copied, wrote-keep, wrote-beyond, written, drop-more}
 use Rattle.areas.specs.Number.{twoBytes}
 use Rattle.queries.specs.Places.{arrayTrees}
 use Rattle.queries.specs.TreesLaws.{array-behind}
@@ -24,7 +24,6 @@ use Rattle.arrange.specs.declared.arrange.Filled.{Filled}
 use Rattle.arrange.specs.Index.{base, sizeOf}
 use Rattle.arrange.specs.Arrange.{numbered, arranged, treesOf, numberBytes, numbersAt, indexAt, Front, Room, Grows}
 use Rattle.arrange.specs.StandingLaws.{six, length-cons, length-none}
-use Rattle.arrange.specs.KeptLaws.{is-beyond}
 
 -- ---- lists of trees with their numbers
 pub length-both : (xs ys : List Tree) → length (arrayTrees (xs ++ ys)) ≡ length (arrayTrees xs) + length (arrayTrees ys)

@@ -1,15 +1,12 @@
 -- Laws of an area that stays from a place on: what stands there stands there still, and so does the index.
-use mathlib.Core.Path.{_≡_, refl, sym, ap, subst, _∙_}
+use mathlib.Core.Path.{_≡_, _∙_}
 use mathlib.Core.List.{List, [], _∷_, _++_, reverse}
-use Prim.Native.Nat.{ℕ, _+_, _-_, _≤_, _<_}
+use Prim.Native.Nat.{ℕ, _+_, _≤_}
 use native.Mathlib.Omega.{arith}
-use lib.ListN.{length, take, drop}
-use lib.Seq.{slice, take-add, drop-at, length-take-le}
+use lib.ListN.{drop}
 use Rattle.spec_trees.specs.Lists.{All}
 use Rattle.spec_trees.specs.ListLaws.{All-imply, All-reverse}
 use Rattle.spec_trees.specs.Tree.{Tree}
-use Rattle.areas.specs.Area.{Is}
-use Rattle.areas.specs.AreaLaws.{drop-more}
 use Rattle.areas.specs.Number.{twoAt}
 use Rattle.spec_queries.specs.Query.{Pair}
 use Rattle.spec_stages.specs.Group.{alike}
@@ -17,23 +14,7 @@ use Rattle.arrange.specs.Links.{Spot, spots, sameSlot}
 use Rattle.arrange.specs.LinksLaws.{links-kept}
 use Rattle.arrange.specs.Index.{base, backAt, nextAt, markAt, slots, headAt, sizeOf, standing, slot, Marks, Index}
 use Rattle.arrange.specs.Arrange.{indexAt}
-use Rattle.arrange.specs.NumberLaws.{two-above}
-
-slice-part : (w : List ℕ) (p n : ℕ) → p ≤ length w → slice p (p + n) w ≡ take n (drop p w)
-slice-part w p n b = ap (drop p) (take-add p n w) ∙ drop-at (take p w) (take n (drop p w)) p (length-take-le p w b)
-
-pub is-beyond : {w v : List ℕ} {p e : ℕ} {xs : List ℕ} (d : ℕ) → Is w p e xs → drop d v ≡ drop d w → length v ≡ length w → d ≤ p → Is v p e xs
-is-beyond {w} {v} {p} {e} {xs} d h k l b =
-    let z : p + (e - p) ≡ e = omega (arith, h .ends) in
-    let i = h .inside in
-    let j = h .ends in
-    record {
-      lies =
-          ap (λ m. slice p m v) (sym z) ∙ slice-part v p (e - p) (omega arith) ∙ ap (take (e - p)) (drop-more w v d p b k)
-          ∙ sym (slice-part w p (e - p) (omega arith)) ∙ ap (λ m. slice p m w) z ∙ h .lies;
-      ends = h .ends;
-      inside = omega arith;
-    }
+use Rattle.areas.specs.NumberLaws.{two-above}
 
 spots-above : (a : ℕ) (ts : List Tree) → base ≤ a → All (λ s. base ≤ s .0) (spots sizeOf a ts)
 unfolding spots

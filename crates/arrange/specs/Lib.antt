@@ -8,7 +8,6 @@ pub mod LinksLaws
 pub mod EnterLaws
 pub mod SpotsLaws
 pub mod IndexLaws
-pub mod NumberLaws
 pub mod StandingLaws
 pub mod SearchLaws
 pub mod EnteringLaws

@@ -14,6 +14,7 @@ use Rattle.spec_trees.specs.Lists.{All, filter, gather}
 use Rattle.spec_trees.specs.Tree.{Tree}
 use Rattle.spec_trees.specs.Within.{AllowedA}
 use Rattle.areas.specs.Area.{Is, fieldEnd, span}
+use Rattle.areas.specs.AreaLaws.{is-beyond}
 use Rattle.areas.specs.Number.{twoAt}
 use Rattle.spec_queries.specs.Query.{Pair}
 use Rattle.queries.specs.Places.{arrayTrees}
@@ -31,7 +32,7 @@ use Rattle.arrange.specs.Index.{base, nextAt, markAt, sizeOf, standing, 
 use Rattle.arrange.specs.Entering.{Stood}
 use Rattle.arrange.specs.Arrange.{numbered, arranged, treesOf, indexAt, Room, Grows, Following, Follows, Subset, SubsetArranged}
 use Rattle.arrange.specs.StandingLaws.{six, length-cons, length-none, end-is, all-stood}
-use Rattle.arrange.specs.KeptLaws.{is-beyond, index-kept}
+use Rattle.arrange.specs.KeptLaws.{index-kept}
 use Rattle.arrange.specs.FrontLaws.{length-both, numbered-trees, arranged-behind, grows-none, grows-then}
 use Rattle.arrange.specs.EnteringLaws.{sum-small}
 
