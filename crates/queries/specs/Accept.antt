@@ -1,9 +1,11 @@
 -- What the check of a query's bytes comes to: whether the readers of `Decode` read them, as a test; and the same by the
 -- table.
+use mathlib.Core.Path.{_≡_}
 use mathlib.Core.List.{List, [], _∷_}
-use mathlib.Core.Bool.{Bool, false, cond, _&&_, _||_}
-use Prim.Native.Nat.{ℕ, zero, suc}
+use mathlib.Core.Bool.{Bool, true, false, cond, _&&_, _||_}
+use Prim.Native.Nat.{ℕ, zero, suc, _+_, _≤_, _<_}
 use lib.ListN.{length}
+use lib.Seq.{slice}
 use lib.Dec.{eqb, leb, ltb}
 use Rattle.spec_trees.specs.Options.{maybe, some?}
 use Rattle.spec_trees.specs.Limits.{nestMax, aggregatesMax, groupingMax}
@@ -11,6 +13,13 @@ use Rattle.spec_trees.specs.Bytes.{Field}
 use Rattle.spec_trees.specs.Readers.{fields}
 use Rattle.spec_trees.specs.Decode.{arrayR}
 use Rattle.spec_queries.specs.Decode.{pathR, criterionR, divisorR, dataR, itemR, pairR, pairsR, stageR, queryR}
+use Rattle.areas.specs.declared.span.Span.{Span}
+use Rattle.queries.specs.declared.check.Told.{Told}
+use Rattle.queries.specs.declared.check.Told.the-variants.{Good, Fields}
+use Rattle.queries.specs.declared.check.Told.the-variants as Told
+use Rattle.queries.specs.declared.check.Next.{Next}
+use Rattle.queries.specs.declared.check.Next.the-variants.{Behind, Inside}
+use Rattle.queries.specs.declared.check.Next.the-variants as Next
 use Rattle.queries.specs.declared.table.Child.{Child}
 use Rattle.queries.specs.declared.table.Rule.{Rule}
 use Rattle.queries.specs.Table.{allowed, childAt, ruleAt}
@@ -72,3 +81,42 @@ deeper (suc d) t c = byRule d t c
 -- inside any other field all levels are left
 unfoldable pub byTable : ℕ → ℕ → List ℕ → Bool
 byTable d t c = cond (nested t) (deeper d t c) (byRule nestMax t c)
+
+-- ---- the walk
+-- the check of a content that holds no fields
+abbrev pub toldOf : Bool → Told
+toldOf true = Good
+toldOf false = Told.Bad
+
+-- of a criterion or data where d levels are left
+abbrev pub toldNested : ℕ → Told
+toldNested zero = Told.Bad
+toldNested (suc d) = Fields d
+
+-- what is told of a field where criteria and data may nest d deep
+abbrev pub Tells : ℕ → ℕ → List ℕ → Told → Type 0
+Tells d t c Good = fieldOk d (t, c) ≡ true
+Tells d t c (Fields l) = fieldOk d (t, c) ≡ byRule l t c
+Tells d t c Told.Bad = fieldOk d (t, c) ≡ false
+
+-- whether a rule's children behind n others stand in s from a place on
+abbrev pub restOk : ℕ → Rule → ℕ → List ℕ → ℕ → ℕ → Bool
+restOk d x n s at end = contentOk (fieldOk d) x n (slice at end s)
+
+-- a good child, which ends at e
+pub record Passed (d : ℕ) (x : Rule) (n : ℕ) (s : List ℕ) (rest : Span) (e : ℕ) : Type 0 where
+  pub rises : rest .from < e
+  pub within : e ≤ rest .to
+  pub same : restOk d x n s (rest .from) (rest .to) ≡ restOk d x (n + 1) s e (rest .to)
+
+-- a child with the tag t that holds fields
+pub record Held (d : ℕ) (x : Rule) (n : ℕ) (s : List ℕ) (rest : Span) (t : ℕ) (c : Span) (l : ℕ) : Type 0 where
+  pub after : rest .from < c .from
+  pub order : c .from ≤ c .to
+  pub within : c .to ≤ rest .to
+  pub same : restOk d x n s (rest .from) (rest .to) ≡ byRule l t (slice (c .from) (c .to) s) && restOk d x (n + 1) s (c .to) (rest .to)
+
+abbrev pub NextIs : ℕ → Rule → ℕ → List ℕ → Span → Next → Type 0
+NextIs d x n s rest (Behind e) = Passed d x n s rest e
+NextIs d x n s rest (Inside t c l) = Held d x n s rest t c l
+NextIs d x n s rest Next.Bad = restOk d x n s (rest .from) (rest .to) ≡ false

@@ -1,5 +1,5 @@
 -- The steps of the check, in the terms in which the code meets them, and what an accepted query is.
-use mathlib.Core.Path.{_≡_, refl, sym, ap, _∙_}
+use mathlib.Core.Path.{_≡_, refl, sym, ap, subst, _∙_}
 use mathlib.Core.List.{List, [], _∷_}
 use mathlib.Core.Bool.{Bool, true, false, cond, _&&_, _||_, or-true, or-false}
 use mathlib.Core.Option.{Option, none, some, Option·map}
@@ -18,6 +18,9 @@ use Rattle.spec_trees.specs.Tree.{isLabel}
 use Rattle.spec_trees.specs.Bytes
 use Rattle.spec_trees.specs.Readers.{fields, inside, one, tagged, lowValue, bigValue, accepted, overlong, wellFormed, tested}
 use Rattle.spec_trees.specs.Decode.{arrayR}
+use Rattle.areas.specs.declared.span.Span.{Span}
+use Rattle.areas.specs.Area.{span}
+use Rattle.format.specs.declared.head.Head.{Head}
 use Rattle.format.specs.declared.head.Head.the-variants.{Field, Nothing}
 use Rattle.format.specs.declared.check.Check.the-variants.{Accepted, Overlong, Malformed}
 use Rattle.format.specs.Head.{headAt, spanAt}
@@ -32,10 +35,16 @@ use Rattle.spec_queries.specs.Decode.{pathR, divisorR, queryR, decodeQuery, rea
 use Rattle.spec_queries.specs.Rules.{OkQ}
 use Rattle.spec_queries.specs.QueryLaws.{query-back, query-only}
 use Rattle.queries.specs.Steps.{countIn, stepIn}
+use Rattle.queries.specs.declared.check.Told.{Told}
+use Rattle.queries.specs.declared.check.Told.the-variants.{Good, Fields}
+use Rattle.queries.specs.declared.check.Told.the-variants as Told
+use Rattle.queries.specs.declared.check.Next.{Next}
+use Rattle.queries.specs.declared.check.Next.the-variants.{Behind, Inside}
+use Rattle.queries.specs.declared.check.Next.the-variants as Next
 use Rattle.queries.specs.declared.table.Child.{Child}
 use Rattle.queries.specs.declared.table.Rule.{Rule}
 use Rattle.queries.specs.Table.{mayBe, allowed, kindAt, childAt}
-use Rattle.queries.specs.Accept.{fieldOk, childOk, childrenOk, contentOk}
+use Rattle.queries.specs.Accept.{fieldOk, childOk, childrenOk, contentOk, byRule, toldOf, Tells, restOk, Passed, Held, NextIs}
 use Rattle.queries.specs.ShapeLaws.{some-only}
 
 -- ---- the table
@@ -193,18 +202,25 @@ and-bad false b c e = refl
 
 module _ (s : List ℕ) (at end : ℕ) (within : end ≤ length s) (ok : Bytes.Field → Bool) (x : Rule) (n : ℕ) where
   module _ (t f e : ℕ) (h : headAt s at end ≡ Field t f e) where
-    pub children-next : ltb n (x .4) && childOk ok (childAt x n) (t, slice f e s) ≡ true → contentOk ok x n (slice at end s) ≡ contentOk ok x (n + 1) (slice e end s)
+    children-next : ltb n (x .4) && childOk ok (childAt x n) (t, slice f e s) ≡ true → contentOk ok x n (slice at end s) ≡ contentOk ok x (n + 1) (slice e end s)
     unfolding contentOk childrenOk
     children-next k =
         ap (maybe false (childrenOk ok x n)) (head-found s at end within t f e h .reads)
         ∙ next-child (childrenOk ok x n) (childrenOk ok x (n + 1)) (t, slice f e s) (fields (slice e end s))
         (λ fs. and-good (ltb n (x .4)) _ _ k ∙ rw add-one refl)
 
-    pub children-bad : ltb n (x .4) && childOk ok (childAt x n) (t, slice f e s) ≡ false → contentOk ok x n (slice at end s) ≡ false
+    children-bad : ltb n (x .4) && childOk ok (childAt x n) (t, slice f e s) ≡ false → contentOk ok x n (slice at end s) ≡ false
     unfolding contentOk childrenOk
     children-bad k =
         ap (maybe false (childrenOk ok x n)) (head-found s at end within t f e h .reads)
         ∙ bad-child (childrenOk ok x n) (t, slice f e s) (fields (slice e end s)) (λ fs. and-bad (ltb n (x .4)) _ _ k)
+
+    children-step : contentOk ok x n (slice at end s) ≡ (ltb n (x .4) && childOk ok (childAt x n) (t, slice f e s)) && contentOk ok x (n + 1) (slice e end s)
+    children-step = go (ltb n (x .4) && childOk ok (childAt x n) (t, slice f e s)) refl
+      where
+        go : (b : Bool) → ltb n (x .4) && childOk ok (childAt x n) (t, slice f e s) ≡ b → contentOk ok x n (slice at end s) ≡ b && contentOk ok x (n + 1) (slice e end s)
+        go true k = children-next k
+        go false k = children-bad k
 
   pub children-nothing : at < end → headAt s at end ≡ Nothing → contentOk ok x n (slice at end s) ≡ false
   unfolding contentOk maybe
@@ -216,17 +232,91 @@ module _ (s : List ℕ) (at end : ℕ) (within : end ≤ length s) (ok : Bytes.F
 
 -- ---- one child
 module _ (d n : ℕ) (x : Rule) (t : ℕ) (c : List ℕ) where
-  pub child-over : x .4 ≤ n → ltb n (x .4) && childOk (fieldOk d) (childAt x n) (t, c) ≡ false
+  child-over : x .4 ≤ n → ltb n (x .4) && childOk (fieldOk d) (childAt x n) (t, c) ≡ false
   child-over l = rw (le-ltb n (x .4) l) refl
 
   module _ (count : n < x .4) (len : ℕ) (q : len ≡ length c) where
-    pub child-passes : allowed (childAt x n) t len ≡ true → ltb n (x .4) && childOk (fieldOk d) (childAt x n) (t, c) ≡ fieldOk d (t, c)
+    child-passes : allowed (childAt x n) t len ≡ true → ltb n (x .4) && childOk (fieldOk d) (childAt x n) (t, c) ≡ fieldOk d (t, c)
     unfolding childOk
     child-passes k = rw (lt-ltb n (x .4) count, ← q, k) refl
 
-    pub child-fails : allowed (childAt x n) t len ≡ false → ltb n (x .4) && childOk (fieldOk d) (childAt x n) (t, c) ≡ false
+    child-fails : allowed (childAt x n) t len ≡ false → ltb n (x .4) && childOk (fieldOk d) (childAt x n) (t, c) ≡ false
     unfolding childOk
     child-fails k = rw (lt-ltb n (x .4) count, ← q, k) refl
+
+-- ---- what is told of a field
+module _ (d t : ℕ) (c : List ℕ) where
+  pub leaf-tells : (good : Bool) {r : Told} → r ≡ toldOf good → good ≡ fieldOk d (t, c) → Tells d t c r
+  leaf-tells true e q = subst (Tells d t c) (sym e) (sym q)
+  leaf-tells false e q = subst (Tells d t c) (sym e) (sym q)
+
+  module _ {r : Told} (h : Tells d t c r) where
+    told-good : r ≡ Good → fieldOk d (t, c) ≡ true
+    told-good e = subst (Tells d t c) e h
+
+    told-fields : {l : ℕ} → r ≡ Fields l → fieldOk d (t, c) ≡ byRule l t c
+    told-fields e = subst (Tells d t c) e h
+
+    told-bad : r ≡ Told.Bad → fieldOk d (t, c) ≡ false
+    told-bad e = subst (Tells d t c) e h
+
+-- ---- the next child
+module _ (d : ℕ) (x : Rule) (n : ℕ) (s : List ℕ) (rest : Span) (within : rest .to ≤ length s) where
+  pub next-over : x .4 ≤ n → rest .from < rest .to → restOk d x n s (rest .from) (rest .to) ≡ false
+  next-over l m = go (headAt s (rest .from) (rest .to)) refl
+    where
+      go : (h : Head) → headAt s (rest .from) (rest .to) ≡ h → restOk d x n s (rest .from) (rest .to) ≡ false
+      go (Field t f e) h = children-bad s (rest .from) (rest .to) within (fieldOk d) x n t f e h (child-over d n x t (slice f e s) l)
+      go Nothing h = children-nothing s (rest .from) (rest .to) within (fieldOk d) x n m h
+
+  module _ (t f e : ℕ) (h : headAt s (rest .from) (rest .to) ≡ Field t f e) (count : n < x .4) where
+    size : e - f ≡ length (slice f e s)
+    size = sym (length-slice f e s (omega (arith, head-found s (rest .from) (rest .to) within t f e h .stop)))
+
+    pub next-other : allowed (childAt x n) t (e - f) ≡ false → restOk d x n s (rest .from) (rest .to) ≡ false
+    next-other k = children-bad s (rest .from) (rest .to) within (fieldOk d) x n t f e h (child-fails d n x t (slice f e s) count (e - f) size k)
+
+    module _ (may : allowed (childAt x n) t (e - f) ≡ true) where
+      next-is : restOk d x n s (rest .from) (rest .to) ≡ fieldOk d (t, slice f e s) && restOk d x (n + 1) s e (rest .to)
+      next-is =
+          children-step s (rest .from) (rest .to) within (fieldOk d) x n t f e h
+          ∙ ap (λ b. b && restOk d x (n + 1) s e (rest .to)) (child-passes d n x t (slice f e s) count (e - f) size may)
+
+      next-then : {b : Bool} → fieldOk d (t, slice f e s) ≡ b → restOk d x n s (rest .from) (rest .to) ≡ b && restOk d x (n + 1) s e (rest .to)
+      next-then q = next-is ∙ ap (λ b. b && restOk d x (n + 1) s e (rest .to)) q
+
+      module _ {r : Told} (told : Tells d t (slice f e s) r) where
+        pub next-good : r ≡ Good → Passed d x n s rest e
+        next-good q =
+            let p = head-found s (rest .from) (rest .to) within t f e h in
+            record { rises = omega (arith, p .start, p .order); within = p .stop; same = next-then (told-good d t (slice f e s) told q) }
+
+        pub next-fields : {l : ℕ} → r ≡ Fields l → Held d x n s rest t (span f e) l
+        next-fields q =
+            let p = head-found s (rest .from) (rest .to) within t f e h in
+            record { after = omega (arith, p .start); order = p .order; within = p .stop; same = next-then (told-fields d t (slice f e s) told q) }
+
+        pub next-bad : r ≡ Told.Bad → restOk d x n s (rest .from) (rest .to) ≡ false
+        next-bad q = next-then (told-bad d t (slice f e s) told q)
+
+-- what the answer says
+module _ (d : ℕ) (x : Rule) (n : ℕ) (s : List ℕ) (rest : Span) {r : Next} (h : NextIs d x n s rest r) where
+  pub is-behind : {e : ℕ} → r ≡ Behind e → Passed d x n s rest e
+  is-behind q = subst (NextIs d x n s rest) q h
+
+  pub is-inside : {t : ℕ} {c : Span} {l : ℕ} → r ≡ Inside t c l → Held d x n s rest t c l
+  is-inside q = subst (NextIs d x n s rest) q h
+
+  pub is-bad : r ≡ Next.Bad → restOk d x n s (rest .from) (rest .to) ≡ false
+  is-bad q = subst (NextIs d x n s rest) q h
+
+-- the fields inside it decide, and then what is behind it
+module _ {d : ℕ} {x : Rule} {n : ℕ} {s : List ℕ} {rest : Span} {t : ℕ} {c : Span} {l : ℕ} (h : Held d x n s rest t c l) where
+  pub held-good : byRule l t (slice (c .from) (c .to) s) ≡ true → restOk d x n s (rest .from) (rest .to) ≡ restOk d x (n + 1) s (c .to) (rest .to)
+  held-good q = h .same ∙ ap (λ b. b && restOk d x (n + 1) s (c .to) (rest .to)) q
+
+  pub held-bad : byRule l t (slice (c .from) (c .to) s) ≡ false → restOk d x n s (rest .from) (rest .to) ≡ false
+  held-bad q = h .same ∙ ap (λ b. b && restOk d x (n + 1) s (c .to) (rest .to)) q
 
 -- ---- the query field
 pub query-field : (d t : ℕ) (c : List ℕ) → t ≡ 16 → some? (queryR (t, c)) ≡ fieldOk d (t, c)

@@ -22,7 +22,9 @@ use Rattle.spec_queries.specs.Decode.{pathR, pathR⁺, routeR, criterionR, crit
 use Rattle.queries.specs.declared.table.Child.{Child}
 use Rattle.queries.specs.declared.table.Rule.{Rule}
 use Rattle.queries.specs.Table.{child, noTags, range, mayBe, allowed, kinds, kindAt, noChild, arrayChild, stageChild, pathChild, routeChild, givenChild, criterionChild, dataChild, divisorChild, itemChild, pairChild, aggregatesChild, groupingChild, never, rules, ruleAt}
-use Rattle.queries.specs.Accept.{criterionOk, dataOk, fieldOk, childOk, contentOk, byRule, leaf, nested, deeper, byTable}
+use Rattle.queries.specs.declared.check.Told.{Told}
+use Rattle.queries.specs.declared.check.Told.the-variants.{Fields}
+use Rattle.queries.specs.Accept.{criterionOk, dataOk, fieldOk, childOk, contentOk, byRule, leaf, nested, deeper, byTable, toldNested, Tells}
 use Rattle.queries.specs.ShapeLaws.{some-only, Takes, Reads, one-ok, two-ok, three-ok, many-ok, none-ok, never-ok}
 
 -- ---- kinds: the reader of a kind reads what may stand as a child of it
@@ -266,65 +268,93 @@ table-agrees t = go (ltb t 52) refl
     go true e = rw zero-add at (each-has Agrees 52 0 agreement t (leb-true (suc t) 52 e))
     go false e = above-agrees t (omega (arith, leb-false (suc t) 52 e))
 
--- ---- the code's constants
--- in a list no default is read
-in-list : {A : Type 0} (xs : List A) (n : ℕ) (a b : A) → n < length xs → getD xs n a ≡ getD xs n b
-in-list [] n a b l = absurd (omega arith)
-in-list (x ∷ xs) zero a b l = refl
-in-list (x ∷ xs) (suc n) a b l = in-list xs n a b (omega arith)
+-- ---- the code's table
+-- a number that is none of the list, the last one first, as a match leaves it
+abbrev pub NoneOf : ℕ → List ℕ → Type 0
+NoneOf t [] = Unit {0}
+NoneOf t (k ∷ ks) = NoneOf t ks × (t ≡ k → ⊥)
 
-pub rule-in : (t : ℕ) (x : Rule) → t < 52 → getD rules t x ≡ ruleAt t
-unfolding ruleAt
-rule-in t x l = in-list rules t x never l
+unfoldable has : ℕ → List ℕ → Bool
+has t [] = false
+has t (k ∷ ks) = eqb t k || has t ks
 
-pub rule-out : (t : ℕ) → 52 ≤ t → ruleAt t ≡ never
-unfolding ruleAt
-rule-out t l = List·getD-eq-default rules never {n = t} l
+has-none : (t : ℕ) (ks : List ℕ) → NoneOf t ks → has t ks ≡ false
+unfolding has
+has-none t [] n = refl
+has-none t (k ∷ ks) n = rw (ne-eqb t k (n .1)) (has-none t ks (n .0))
 
-pub kind-in : (k : ℕ) (x : Child) → k < 13 → getD kinds k x ≡ kindAt k
-unfolding kindAt
-kind-in k x l = in-list kinds k x noTags l
+-- f is x outside the list, by a look at each number below m
+module _ {A : Type 0} (f : ℕ → A) (x : A) (ks : List ℕ) where
+  abbrev Else : ℕ → Type 0
+  Else t = has t ks ≡ false → f t ≡ x
 
-pub kind-out : (k : ℕ) → 13 ≤ k → kindAt k ≡ noTags
-unfolding kindAt
-kind-out k l = List·getD-eq-default kinds noTags {n = k} l
+  by-rows : (m : ℕ) → Each Else 0 m → ((t : ℕ) → m ≤ t → f t ≡ x) → (t : ℕ) → NoneOf t ks → f t ≡ x
+  by-rows m rows out t n = go (ltb t m) refl
+    where
+      go : (b : Bool) → ltb t m ≡ b → f t ≡ x
+      go true e = rw zero-add at (each-has Else m 0 rows t (leb-true (suc t) m e)) (has-none t ks n)
+      go false e = out t (omega (arith, leb-false (suc t) m e))
+
+-- a row that the list has, and one that is x
+listed-row : {A : Type 0} {a b : A} → true ≡ false → a ≡ b
+listed-row e = let z : _≡_ {A = ℕ} 0 1 = cc in absurd (omega arith)
+
+other-row : {A : Type 0} {a : A} → false ≡ false → a ≡ a
+other-row e = refl
+
+abbrev pub ruled : List ℕ
+ruled = 51 ∷ 50 ∷ 49 ∷ 48 ∷ 47 ∷ 45 ∷ 44 ∷ 43 ∷ 42 ∷ 41 ∷ 40 ∷ 39 ∷ 38 ∷ 37 ∷ 36 ∷ 35 ∷ 34 ∷ 33 ∷ 21 ∷ 20 ∷ 19 ∷ 18 ∷ 17 ∷ 16 ∷ []
+
+pub rule-else : (t : ℕ) → NoneOf t ruled → ruleAt t ≡ never
+unfolding ruleAt has
+rule-else =
+    by-rows ruleAt never ruled 52
+    (other-row also other-row also other-row also other-row also other-row also other-row also other-row also other-row
+    also other-row also other-row also other-row also other-row also other-row also other-row also other-row also other-row
+    also listed-row also listed-row also listed-row also listed-row also listed-row also listed-row
+    also other-row also other-row also other-row also other-row also other-row also other-row also other-row also other-row also other-row also other-row also other-row
+    also listed-row also listed-row also listed-row also listed-row also listed-row also listed-row also listed-row
+    also listed-row also listed-row also listed-row also listed-row also listed-row also listed-row
+    also other-row
+    also listed-row also listed-row also listed-row also listed-row also listed-row
+    also tt)
+    (λ t l. List·getD-eq-default rules never {n = t} l)
+
+abbrev pub childKinds : List ℕ
+childKinds = 12 ∷ 11 ∷ 10 ∷ 9 ∷ 8 ∷ 7 ∷ 6 ∷ 5 ∷ 4 ∷ 3 ∷ 2 ∷ 1 ∷ []
+
+pub kind-else : (k : ℕ) → NoneOf k childKinds → kindAt k ≡ noTags
+unfolding kindAt has
+kind-else =
+    by-rows kindAt noTags childKinds 13
+    (other-row also listed-row also listed-row also listed-row also listed-row also listed-row also listed-row
+    also listed-row also listed-row also listed-row also listed-row also listed-row also listed-row also tt)
+    (λ k l. List·getD-eq-default kinds noTags {n = k} l)
 
 -- ---- the same by the parts of the code
--- where no level is left
-pub criterion-deep : (d : ℕ) (f : Field) → d ≡ 0 → criterionOk d f ≡ false
-unfolding criterionOk criterionR some?
-criterion-deep d f e = rw e refl
-
-pub data-deep : (d : ℕ) (f : Field) → d ≡ 0 → dataOk d f ≡ false
-unfolding dataOk dataR some?
-data-deep d f e = rw e refl
-
-deeper-less : (d t : ℕ) (c : List ℕ) → (d ≡ 0 → ⊥) → deeper d t c ≡ byRule (d - 1) t c
-unfolding deeper
-deeper-less zero t c n = absurd (n refl)
-deeper-less (suc d) t c n = rw (sub-one (suc d)) refl
-
 not-leaf : (t : ℕ) → (t ≡ 1 → ⊥) → (t ≡ 32 → ⊥) → (t ≡ 46 → ⊥) → leaf t ≡ false
 unfolding leaf
 not-leaf t a b c = rw (ne-eqb t 1 a, ne-eqb t 32 b, ne-eqb t 46 c) refl
 
-module _ (d t : ℕ) (c : List ℕ) where
-  nested-rule : 33 ≤ t → t ≤ 45 → (d ≡ 0 → ⊥) → fieldOk d (t, c) ≡ byRule (d - 1) t c
+module _ (t : ℕ) (c : List ℕ) where
+  nested-deeper : (d : ℕ) → 33 ≤ t → t ≤ 45 → fieldOk d (t, c) ≡ deeper d t c
   unfolding byTable nested
-  nested-rule a b n =
-      table-agrees t (not-leaf t (λ e. omega arith) (λ e. omega arith) (λ e. omega arith)) d c
-      ∙ rw (le-leb 33 t a, le-leb t 45 b) (deeper-less d t c n)
+  nested-deeper d a b = table-agrees t (not-leaf t (λ e. omega arith) (λ e. omega arith) (λ e. omega arith)) d c ∙ rw (le-leb 33 t a, le-leb t 45 b) refl
 
-  pub criterion-rule : 33 ≤ t → t ≤ 39 → (d ≡ 0 → ⊥) → criterionOk d (t, c) ≡ byRule (d - 1) t c
-  criterion-rule a b n = sym (criterion-field d t c a b) ∙ nested-rule a (omega arith) n
+  -- a criterion or data
+  pub nested-tells : (d : ℕ) {r : Told} → 33 ≤ t → t ≤ 45 → r ≡ toldNested d → Tells d t c r
+  unfolding deeper
+  nested-tells zero a b e = subst (Tells 0 t c) (sym e) (nested-deeper 0 a b)
+  nested-tells (suc d) a b e = subst (Tells (suc d) t c) (sym e) (nested-deeper (suc d) a b)
 
-  pub data-rule : 40 ≤ t → t ≤ 45 → (d ≡ 0 → ⊥) → dataOk d (t, c) ≡ byRule (d - 1) t c
-  data-rule a b n = sym (data-field d t c a b) ∙ nested-rule (omega arith) b n
-
-  pub other-rule : (t ≡ 1 → ⊥) → (t ≡ 32 → ⊥) → (t ≡ 46 → ⊥) → Outside 33 45 t → fieldOk d (t, c) ≡ byRule nestMax t c
+  pub other-rule : (d : ℕ) → (t ≡ 1 → ⊥) → (t ≡ 32 → ⊥) → (t ≡ 46 → ⊥) → Outside 33 45 t → fieldOk d (t, c) ≡ byRule nestMax t c
   unfolding byTable nested
-  other-rule u v w o = table-agrees t (not-leaf t u v w) d c ∙ go o
+  other-rule d u v w o = table-agrees t (not-leaf t u v w) d c ∙ go o
     where
       go : Outside 33 45 t → cond (leb 33 t && leb t 45) (deeper d t c) (byRule nestMax t c) ≡ byRule nestMax t c
       go (inl l) = rw (lt-leb 33 t l) refl
       go (inr l) = rw (lt-leb t 45 l, and-false (leb 33 t)) refl
+
+pub nested-less : (d : ℕ) → (d ≡ 0 → ⊥) → toldNested d ≡ Fields (d - 1)
+nested-less zero n = absurd (n refl)
+nested-less (suc d) n = rw (sub-one (suc d)) refl

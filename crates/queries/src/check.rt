@@ -13,18 +13,15 @@ use format::head;
 use format::head::Head;
 use format::limits::Limits;
 use format::view;
-ghost use mathlib.Core.Bool.{_&&_};
 ghost use mathlib.Core.Path.{_≡_};
-ghost use Prim.Native.Nat.{_≤_};
-ghost use lib.Dec.{ltb};
+ghost use Prim.Native.Nat.{_≤_, _<_};
 ghost use lib.ListN.{length};
 ghost use lib.Seq.{slice};
 ghost use Rattle.spec_trees.specs.Options.{some?};
 ghost use Rattle.spec_trees.specs.Tree.{isLabel};
 ghost use Rattle.spec_queries.specs.Decode.{divisorR, queryR, readQuery};
 ghost use Rattle.spec_queries.specs.Query.{isPath};
-ghost use Rattle.queries.specs.Table.{childAt};
-ghost use Rattle.queries.specs.Accept.{criterionOk, dataOk, fieldOk, childOk, contentOk};
+ghost use Rattle.queries.specs.Accept.{byRule, toldOf, toldNested, Tells, NextIs};
 ghost use Rattle.format.specs.Check.{checkOf};
 
 /// A label: 1 to its limit.
@@ -73,85 +70,117 @@ fn check_divisor(area: &[u8], content: Span) -> bool
     n <= Limits::DIVISOR
 }
 
+/// What the check of a field without those inside it comes to: it is good; it is good if the fields inside it are, where
+/// criteria and data may nest so deep; or it is bad.
+pub enum Told {
+    Good,
+    Fields(usize),
+    Bad,
+}
+
+/// What stands next: a good field without fields, and where it ends; a field with fields; or nothing that may stand
+/// there.
+pub enum Next {
+    Behind(usize),
+    Inside { tag: u8, content: Span, left: usize },
+    Bad,
+}
+
+/// Of a content that holds no fields.
+fn tell(good: bool) -> Told
+    ensures { λ r. ⌜ r ≡ toldOf good ⌝ }
+{
+    if good { Told::Good } else { Told::Bad }
+}
+
+/// A criterion or data: it counts 1, and what it holds nests one level less deep.
+fn nested(left: usize) -> Told
+    ensures { λ r. ⌜ r ≡ toldNested left ⌝ }
+{
+    if left == 0 {
+        return Told::Bad;
+    }
+    Told::Fields(left - 1)
+}
+
 /// Any field by its tag and content, where criteria and data may nest `left` deep. Below a stage, an item or a pair,
 /// which are in no criterion and in no data, all levels are left.
-fn check_field(area: &[u8], tag: u8, content: Span, left: usize) -> bool
+fn check_field(area: &[u8], tag: u8, content: Span, left: usize) -> Told
     requires { ⌜ (content .from ≤ content .to) × (content .to ≤ length (now area)) ⌝ }
-    ensures { λ r. ⌜ r ≡ fieldOk left (tag, slice (content .from) (content .to) (now (area .entry))) ⌝ }
+    ensures { λ r. ⌜ Tells left tag (slice (content .from) (content .to) (now (area .entry))) r ⌝ }
 {
     match tag {
-        1 => check::check_array_field(area, tag, content, Limits::DEPTH),
-        32 => check_path(area, content),
-        33..=39 => check_criterion(area, tag, content, left),
-        40..=45 => check_data(area, tag, content, left),
-        46 => check_divisor(area, content),
-        _ => check_children(area, table::rule_of(tag), content, Limits::NEST),
+        1 => tell(check::check_array_field(area, tag, content, Limits::DEPTH)),
+        32 => tell(check_path(area, content)),
+        33..=45 => nested(left),
+        46 => tell(check_divisor(area, content)),
+        _ => Told::Fields(Limits::NEST),
     }
 }
 
-/// A criterion by its tag and content: it counts 1, and what it holds nests one level less deep.
-fn check_criterion(area: &[u8], tag: u8, content: Span, left: usize) -> bool
-    requires { ⌜ (content .from ≤ content .to) × (content .to ≤ length (now area)) × (33 ≤ tag) × (tag ≤ 39) ⌝ }
-    ensures { λ r. ⌜ r ≡ criterionOk left (tag, slice (content .from) (content .to) (now (area .entry))) ⌝ }
+/// The field that stands first in `rest`, as a child behind `count` others.
+fn next_child(area: &[u8], rule: Rule, count: usize, rest: Span, left: usize) -> Next
+    requires { ⌜ (rest .from < rest .to) × (rest .to ≤ length (now area)) ⌝ }
+    ensures { λ r. ⌜ NextIs left rule count (now (area .entry)) rest r ⌝ }
 {
-    if left == 0 {
-        return false;
+    if wide(rule.4) <= count {
+        return Next::Bad;
     }
-    check_children(area, table::rule_of(tag), content, left - 1)
+    let h = head::head_at(area, rest.from, rest.to);
+    let Head::Field { tag, from, to } = h else {
+        return Next::Bad;
+    };
+    if !table::allows(table::child_at(rule, count), tag, to - from) {
+        return Next::Bad;
+    }
+    let content = Span { from, to };
+    let t = check_field(area, tag, content, left);
+    match t {
+        Told::Good => Next::Behind(to),
+        Told::Fields(deep) => Next::Inside {
+            tag,
+            content,
+            left: deep,
+        },
+        Told::Bad => Next::Bad,
+    }
 }
 
-/// Data by their tag and content, lists and choices among them: they count 1, and what they hold nests one level less
-/// deep.
-fn check_data(area: &[u8], tag: u8, content: Span, left: usize) -> bool
-    requires { ⌜ (content .from ≤ content .to) × (content .to ≤ length (now area)) × (40 ≤ tag) × (tag ≤ 45) ⌝ }
-    ensures { λ r. ⌜ r ≡ dataOk left (tag, slice (content .from) (content .to) (now (area .entry))) ⌝ }
-{
-    if left == 0 {
-        return false;
-    }
-    check_children(area, table::rule_of(tag), content, left - 1)
-}
-
-/// Fields, one behind another, as a rule of the table says: each child in its place, not too many and not too few.
-fn check_children(area: &[u8], rule: Rule, content: Span, left: usize) -> bool
+/// The fields inside a field, by its tag, as its rule says: each child in its place, not too many and not too few. Only
+/// for a child that holds fields itself is this called again.
+fn check_inside(area: &[u8], field: u8, content: Span, left: usize) -> bool
     requires { ⌜ (content .from ≤ content .to) × (content .to ≤ length (now area)) ⌝ }
-    ensures { λ r. ⌜ r ≡ contentOk (fieldOk left) rule 0 (slice (content .from) (content .to) (now (area .entry))) ⌝ }
+    ensures { λ r. ⌜ r ≡ byRule left field (slice (content .from) (content .to) (now (area .entry))) ⌝ }
 {
+    let rule = table::rule_of(field);
     let end = content.to;
     let mut at = content.from;
     let mut count: usize = 0;
-    while at < end {
-        let h = head::head_at(area, at, end);
-        match h {
-            Head::Field { tag, from, to } => {
-                if check_child(area, rule, count, tag, Span { from, to }, left) {
+    while at != end {
+        let n = next_child(area, rule, count, Span { from: at, to: end }, left);
+        match n {
+            Next::Behind(to) => {
+                count += 1;
+                at = to;
+            }
+            Next::Inside {
+                tag,
+                content: inner,
+                left: deep,
+            } => {
+                if check_inside(area, tag, inner, deep) {
                     count += 1;
-                    at = to;
+                    at = inner.to;
                 } else {
                     return false;
                 }
             }
-            Head::Nothing => {
+            Next::Bad => {
                 return false;
             }
         }
     }
     wide(rule.3) <= count
-}
-
-/// The child behind `count` others, by its tag and content.
-fn check_child(area: &[u8], rule: Rule, count: usize, tag: u8, content: Span, left: usize) -> bool
-    requires { ⌜ (content .from ≤ content .to) × (content .to ≤ length (now area)) ⌝ }
-    ensures { λ r. ⌜ r ≡ ltb count (rule .4) && childOk (fieldOk left) (childAt rule count) (tag, slice (content .from) (content .to) (now (area .entry))) ⌝ }
-{
-    if wide(rule.4) <= count {
-        return false;
-    }
-    if table::allows(table::child_at(rule, count), tag, content.to - content.from) {
-        check_field(area, tag, content, left)
-    } else {
-        false
-    }
 }
 
 /// A query field by its tag and content.
@@ -160,7 +189,7 @@ fn check_query_field(area: &[u8], tag: u8, content: Span) -> bool
     ensures { λ r. ⌜ r ≡ some? (queryR (tag, slice (content .from) (content .to) (now (area .entry)))) ⌝ }
 {
     if tag == 16 {
-        check_field(area, tag, content, Limits::NEST)
+        check_inside(area, tag, content, Limits::NEST)
     } else {
         false
     }

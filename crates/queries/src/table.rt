@@ -1,6 +1,6 @@
-//! The table: for each tag the tags that may stand inside it, in which order and how many. It is one constant, `RULES`,
+//! The table: for each tag the tags that may stand inside it, in which order and how many. It is one function, `rule_of`,
 //! which the checker consults, so that what a query is made of is said in one place. Its rows name kinds of children by
-//! number: a table of structs in structs takes the prover minutes, and this one seconds.
+//! number. A match and no constant array: the compiler would store the whole array anew at each look.
 use format::limits::Limits;
 ghost use mathlib.Core.Path.{_≡_};
 ghost use Rattle.queries.specs.Table.{mayBe, allowed, kindAt, childAt, ruleAt};
@@ -13,7 +13,7 @@ pub struct Child(pub u8, pub u8, pub u16, pub u16, pub u8);
 /// count.
 pub struct Rule(pub u8, pub u8, pub u8, pub u8, pub u8);
 
-// The kinds of children: their places in `KINDS`.
+// The kinds of children.
 const NONE: u8 = 0;
 
 const ARRAY: u8 = 1;
@@ -42,149 +42,84 @@ const AGGREGATES: u8 = 11;
 
 const GROUPING: u8 = 12;
 
-/// No child: no tag is 1 to 0, and no byte is 256.
-const NO_TAGS: Child = Child(1, 0, 256, 256, 0);
-
-/// By kind. Where a kind has no further tags, its first tag stands for them.
-const KINDS: [Child; 13] = [
-    // none
-    NO_TAGS,
-    // array
-    Child(1, 1, 1, 1, 0),
-    // stage
-    Child(17, 21, 17, 17, 0),
-    // path
-    Child(32, 32, 32, 32, 0),
-    // path that is applied: the same for now
-    Child(32, 32, 32, 32, 0),
-    // path not empty
-    Child(32, 32, 32, 32, 1),
-    // criterion
-    Child(33, 39, 33, 33, 0),
-    // data
-    Child(40, 45, 40, 40, 0),
-    // divisor
-    Child(46, 46, 46, 46, 0),
-    // item
-    Child(47, 48, 47, 47, 0),
-    // pair
-    Child(49, 49, 49, 49, 0),
-    // aggregates
-    Child(50, 50, 50, 50, 0),
-    // grouping
-    Child(51, 51, 51, 51, 0),
-];
-
-/// No content passes, not even an empty one: the least count is above the greatest.
-const NEVER: Rule = Rule(NONE, NONE, NONE, 1, 0);
-
-/// By tag.
-const RULES: [Rule; 52] = [
-    // 0 to 15 belong to trees
-    NEVER,
-    NEVER,
-    NEVER,
-    NEVER,
-    NEVER,
-    NEVER,
-    NEVER,
-    NEVER,
-    NEVER,
-    NEVER,
-    NEVER,
-    NEVER,
-    NEVER,
-    NEVER,
-    NEVER,
-    NEVER,
-    // 16 query
-    Rule(STAGE, STAGE, STAGE, 0, Limits::STAGES as u8),
-    // 17 match
-    Rule(CRITERION, NONE, NONE, 1, 1),
-    // 18 unwind
-    Rule(PATH, NONE, NONE, 1, 1),
-    // 19 project
-    Rule(ITEM, ITEM, ITEM, 1, Limits::ITEMS as u8),
-    // 20 group
-    Rule(AGGREGATES, GROUPING, NONE, 2, 2),
-    // 21 lookup
-    Rule(ROUTE, ROUTE, GIVEN, 3, 3),
-    // 22 to 31 are no tags
-    NEVER,
-    NEVER,
-    NEVER,
-    NEVER,
-    NEVER,
-    NEVER,
-    NEVER,
-    NEVER,
-    NEVER,
-    NEVER,
-    // 32 path: labels, and no fields
-    NEVER,
-    // 33 true
-    Rule(NONE, NONE, NONE, 0, 0),
-    // 34 exists
-    Rule(ROUTE, NONE, NONE, 1, 1),
-    // 35 equal
-    Rule(ROUTE, ARRAY, NONE, 2, 2),
-    // 36 same
-    Rule(ROUTE, ROUTE, NONE, 2, 2),
-    // 37 not
-    Rule(CRITERION, NONE, NONE, 1, 1),
-    // 38 and
-    Rule(CRITERION, CRITERION, NONE, 2, 2),
-    // 39 or
-    Rule(CRITERION, CRITERION, NONE, 2, 2),
-    // 40 literal
-    Rule(ARRAY, NONE, NONE, 1, 1),
-    // 41 path, as data
-    Rule(ROUTE, NONE, NONE, 1, 1),
-    // 42 list
-    Rule(DATA, DATA, DATA, 1, Limits::MEMBERS as u8),
-    // 43 criterion, as data
-    Rule(CRITERION, NONE, NONE, 1, 1),
-    // 44 choice
-    Rule(CRITERION, DATA, DATA, 3, 3),
-    // 45 reduced
-    Rule(ROUTE, DIVISOR, NONE, 2, 2),
-    // 46 divisor: two bytes, and no fields
-    NEVER,
-    // 47 keep
-    Rule(PATH, NONE, NONE, 1, 1),
-    // 48 place
-    Rule(DATA, GIVEN, NONE, 2, 2),
-    // 49 pair
-    Rule(ROUTE, GIVEN, NONE, 2, 2),
-    // 50 aggregates
-    Rule(PAIR, PAIR, PAIR, 0, Limits::AGGREGATES as u8),
-    // 51 grouping
-    Rule(PAIR, PAIR, PAIR, 0, Limits::GROUPING as u8),
-];
-
-/// The rule of a tag. A tag that the table does not have may hold nothing.
+/// The rule of a tag. 0 to 15 belong to trees, and what is not listed is no tag or holds no fields: no content passes,
+/// not even an empty one, since the least count is above the greatest.
 pub fn rule_of(tag: u8) -> Rule
     ensures { λ r. ⌜ r ≡ ruleAt tag ⌝ }
 {
-    if tag < 52 {
-        let i = tag as usize;
-        let r = RULES[i];
-        r
-    } else {
-        NEVER
+    match tag {
+        // query
+        16 => Rule(STAGE, STAGE, STAGE, 0, Limits::STAGES as u8),
+        // match
+        17 => Rule(CRITERION, NONE, NONE, 1, 1),
+        // unwind
+        18 => Rule(PATH, NONE, NONE, 1, 1),
+        // project
+        19 => Rule(ITEM, ITEM, ITEM, 1, Limits::ITEMS as u8),
+        // group
+        20 => Rule(AGGREGATES, GROUPING, NONE, 2, 2),
+        // lookup
+        21 => Rule(ROUTE, ROUTE, GIVEN, 3, 3),
+        // true
+        33 => Rule(NONE, NONE, NONE, 0, 0),
+        // exists
+        34 => Rule(ROUTE, NONE, NONE, 1, 1),
+        // equal
+        35 => Rule(ROUTE, ARRAY, NONE, 2, 2),
+        // same
+        36 => Rule(ROUTE, ROUTE, NONE, 2, 2),
+        // not
+        37 => Rule(CRITERION, NONE, NONE, 1, 1),
+        // and
+        38 => Rule(CRITERION, CRITERION, NONE, 2, 2),
+        // or
+        39 => Rule(CRITERION, CRITERION, NONE, 2, 2),
+        // literal
+        40 => Rule(ARRAY, NONE, NONE, 1, 1),
+        // path, as data
+        41 => Rule(ROUTE, NONE, NONE, 1, 1),
+        // list
+        42 => Rule(DATA, DATA, DATA, 1, Limits::MEMBERS as u8),
+        // criterion, as data
+        43 => Rule(CRITERION, NONE, NONE, 1, 1),
+        // choice
+        44 => Rule(CRITERION, DATA, DATA, 3, 3),
+        // reduced
+        45 => Rule(ROUTE, DIVISOR, NONE, 2, 2),
+        // keep
+        47 => Rule(PATH, NONE, NONE, 1, 1),
+        // place
+        48 => Rule(DATA, GIVEN, NONE, 2, 2),
+        // pair
+        49 => Rule(ROUTE, GIVEN, NONE, 2, 2),
+        // aggregates
+        50 => Rule(PAIR, PAIR, PAIR, 0, Limits::AGGREGATES as u8),
+        // grouping
+        51 => Rule(PAIR, PAIR, PAIR, 0, Limits::GROUPING as u8),
+        _ => Rule(NONE, NONE, NONE, 1, 0),
     }
 }
 
-/// What a child of a kind may be.
+/// What a child of a kind may be. Where a kind has no further tags, its first tag stands for them. No child: no tag is 1
+/// to 0, and no byte is 256.
 pub fn child_of(kind: u8) -> Child
     ensures { λ r. ⌜ r ≡ kindAt kind ⌝ }
 {
-    if kind < 13 {
-        let i = kind as usize;
-        let r = KINDS[i];
-        r
-    } else {
-        NO_TAGS
+    match kind {
+        ARRAY => Child(1, 1, 1, 1, 0),
+        STAGE => Child(17, 21, 17, 17, 0),
+        PATH => Child(32, 32, 32, 32, 0),
+        // the same for now
+        ROUTE => Child(32, 32, 32, 32, 0),
+        GIVEN => Child(32, 32, 32, 32, 1),
+        CRITERION => Child(33, 39, 33, 33, 0),
+        DATA => Child(40, 45, 40, 40, 0),
+        DIVISOR => Child(46, 46, 46, 46, 0),
+        ITEM => Child(47, 48, 47, 47, 0),
+        PAIR => Child(49, 49, 49, 49, 0),
+        AGGREGATES => Child(50, 50, 50, 50, 0),
+        GROUPING => Child(51, 51, 51, 51, 0),
+        _ => Child(1, 0, 256, 256, 0),
     }
 }
 
