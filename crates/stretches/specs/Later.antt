@@ -1,7 +1,7 @@
 -- What the functions of the later stretches ask of the areas, and what they do.
 use mathlib.Core.Path.{_≡_}
 use mathlib.Core.List.{List}
-use Prim.Native.Nat.{ℕ, _+_, _≤_}
+use Prim.Native.Nat.{ℕ, _≤_}
 use lib.ListN.{length}
 use Rattle.spec_trees.specs.Limits.{stagesMax, workMin}
 use Rattle.spec_trees.specs.Tree.{Tree}
@@ -12,15 +12,15 @@ use Rattle.spec_stages.specs.Group.{grouped}
 use Rattle.spec_stages.specs.Stages.{State, going, large, long, stages}
 use Rattle.stream.specs.declared.collector.Collector.{Collector}
 use Rattle.stream.specs.declared.collector.Collector.the-variants.{Len}
-use Rattle.spec_stages.specs.Stretch.{before, behind}
-use Rattle.stream.specs.Map.{endPart, rooms, groupMin}
+use Rattle.spec_stages.specs.Stretch.{behind}
+use Rattle.stream.specs.Map.{endPart}
 use Rattle.stream.specs.Collector.{Collects}
 use Rattle.stream.specs.Feed.{Planned}
 use Rattle.stretches.specs.declared.ended.Ended.{Ended}
 use Rattle.stretches.specs.Ended.{EndedIs}
 use Rattle.areas.specs.declared.span.Span.{Span}
 use Rattle.stretches.specs.declared.next.StretchAt.{StretchAt}
-use Rattle.stretches.specs.Stretch.{Shows, through}
+use Rattle.stretches.specs.Stretch.{Shows, GroupPlan, through}
 
 -- the trees of the state are allowed
 abbrev pub Allows : State → Type 0
@@ -34,17 +34,11 @@ LastPost s r = (w : List ℕ) (st : State) → endPart ≤ length w → Shows w 
 
 -- ---- the array that the collector holds enters a group
 pub record HeldReady (w : List ℕ) (n : ℕ) (q : List ℕ) (at : StretchAt) (j : List ℕ) : Type 0 where
-  pub aggregates : List Pair
-  pub grouping : List Pair
-  pub pairs : Pairs q (at .group) aggregates grouping
+  pub plan : GroupPlan (length w) q at j
   pub trees : List Tree
   pub allowed : AllowedA trees
   pub collects : Collects w (Len n) (arrayTrees trees)
-  pub list : List Stage
-  pub joined : List Tree
-  pub planned : Planned q (at .next) j list joined
-  pub room : rooms (length (before list)) + groupMin ≤ length w
-  pub small : length w ≤ workMin
+  pub size : length w ≡ workMin
 
 abbrev pub HeldPost : (w v : List ℕ) (n : ℕ) (q : List ℕ) (at : StretchAt) (j : List ℕ) → Collector → Type 0
 HeldPost w v n q at j r = (ags gs : List Pair) (ts : List Tree) (ss : List Stage) (us : List Tree) → Pairs q (at .group) ags gs → AllowedA ts

@@ -7,21 +7,22 @@ use Prim.Native.Nat.{ℕ, suc, _+_, _-_, _≤_, _<_}
 use native.Mathlib.Omega.{arith}
 use lib.ListN.{length, take, drop}
 use lib.Seq.{take-add, drop-at, length-take-le}
-use Rattle.areas.specs.declared.area.Out.the-variants.{At}
-use Rattle.spec_trees.specs.Limits.{arrayMax, stagesMax}
+use Rattle.spec_trees.specs.Limits.{arrayMax, depthMax, stagesMax}
 use Rattle.spec_trees.specs.Lists.{All}
 use Rattle.spec_trees.specs.ListLaws.{All-left}
 use Rattle.spec_trees.specs.Tree.{Tree, trees}
 use Rattle.spec_trees.specs.Size.{arraySize}
 use Rattle.spec_trees.specs.SizeLaws.{length-treeFs}
-use Rattle.spec_trees.specs.Within.{AllowedA}
-use Rattle.areas.specs.Area.{Is, Wrote, IsAt}
+use Rattle.spec_trees.specs.Within.{Allowed, AllowedA}
+use Rattle.areas.specs.Area.{Is, IsAt}
 use Rattle.areas.specs.declared.span.Span.{Span}
-use Rattle.areas.specs.AreaLaws.{written}
-use Rattle.spec_queries.specs.Query.{Stage, group}
+use Rattle.spec_queries.specs.Query.{Pair, Stage, group}
 use Rattle.spec_queries.specs.Rules.{OkS}
 use Rattle.queries.specs.Places.{arrayTrees, stagesBytes, Pairs}
 use Rattle.spec_stages.specs.Group.{grouped}
+use Rattle.spec_stages.specs.Flat.{flat}
+use Rattle.spec_stages.specs.PermutesLaws.{All-permutes, permutes-back}
+use Rattle.spec_stages.specs.GroupedLaws.{grouped-permutes}
 use Rattle.spec_stages.specs.Stages.{State, going, large, long, after, step, stages}
 use Rattle.spec_stages.specs.KeepLaws.{stages-allowed}
 use Rattle.stream.specs.declared.collector.Collector.{Collector}
@@ -29,15 +30,17 @@ use Rattle.stream.specs.declared.collector.Collector.the-variants.{Len, Over, L
 use Rattle.spec_stages.specs.Stretch.{before, behind}
 use Rattle.spec_stages.specs.StretchLaws.{before-behind, before-short, stretch, stages-large, stages-long, shorter, behind-ok}
 use Rattle.spec_stages.specs.LeaveLaws.{group-step, group-long}
-use Rattle.stream.specs.Map.{treesMax, endPart, collectorAt, groupMin}
+use Rattle.stream.specs.Map.{treesMax, endPart, collectorAt}
 use Rattle.stream.specs.MapLaws.{group-fits}
 use Rattle.stream.specs.Collector.{isLarge, ends, Collects, Fed}
 use Rattle.stream.specs.Feed.{Planned}
+use Rattle.arrange.specs.Index.{Collected}
+use Rattle.arrange.specs.Arrange.{Arranges}
 use Rattle.stretches.specs.declared.ended.Ended.{Ended}
 use Rattle.stretches.specs.declared.next.Next.{Next}
 use Rattle.stretches.specs.declared.next.StretchAt.{StretchAt}
 use Rattle.stretches.specs.Ended.{HeldIs, FullIs, EndedIs}
-use Rattle.stretches.specs.Stretch.{Shows, Gathered, GroupReady, GroupPost, through}
+use Rattle.stretches.specs.Stretch.{Shows, GroupPlan, GroupReady, GroupPost, through}
 use Rattle.stretches.specs.Next.{StretchIs, NextPost}
 use Rattle.stretches.specs.Later.{Allows, LastPost, HeldReady, HeldPost, LaterReady, LaterPost}
 
@@ -233,17 +236,20 @@ module _ {q : List ℕ} {p : Span} {r : Next} (k : NextPost q p r) where
             let c = part ss₀ us₀ (l .planned) in
             let b = few-of ss₀ us₀ (l .planned) (l .few) in
             record {
-              aggregates = c .aggregates;
-              grouping = c .grouping;
-              pairs = pairs-of ss₀ us₀ (l .planned);
+              plan = record {
+                aggregates = c .aggregates;
+                grouping = c .grouping;
+                pairs = pairs-of ss₀ us₀ (l .planned);
+                list = c .others;
+                joined = us₀;
+                planned = planned-of ss₀ us₀ (l .planned);
+                room = omega (arith, group-fits (length (before (c .others))) (omega (arith, before-short (c .others))), l .size);
+                small = omega (arith, l .size);
+              };
               trees = x .trees;
               allowed = held-allowed (l .state) (l .shown) (l .allowed);
               collects = x .collects;
-              list = c .others;
-              joined = us₀;
-              planned = planned-of ss₀ us₀ (l .planned);
-              room = omega (arith, group-fits (length (before (c .others))) (omega (arith, before-short (c .others))), l .size);
-              small = omega (arith, l .size);
+              size = l .size;
             }
 
         module _ {x : List ℕ} {o : Collector} (b : length x ≡ length w) (i : HeldPost w x n q at j o) where
@@ -279,39 +285,37 @@ pub record LaterGoing (w₀ q : List ℕ) (p₀ : Span) (j : List ℕ) (s₀ : C
   pub ready : LaterReady w q p j s
   pub whole : {v : List ℕ} {r : Ended} → LaterPost w v q p j s r → LaterPost w₀ v q p₀ j s₀ r
 
--- ---- the collected array is moved to the front
+-- ---- the collected array is arranged at the front
+grouped-allowed : (gs : List Pair) (ts : List Tree) → AllowedA ts → AllowedA (flat (grouped gs ts))
+grouped-allowed gs ts o = All-permutes (Allowed depthMax) (permutes-back (grouped-permutes gs ts)) o
+
 module _ {w : List ℕ} {n : ℕ} {q : List ℕ} {at : StretchAt} {j : List ℕ} (r : HeldReady w n q at j) where
-  pub held-bounds : (n ≤ treesMax) × (groupMin ≤ length w)
-  held-bounds = (collects-short w n (arrayTrees (r .trees)) (r .collects) .0, omega (arith, r .room))
+  collected : {ags gs : List Pair} (ts : List Tree) → Pairs q (at .group) ags gs → AllowedA ts → Collects w (Len n) (arrayTrees ts) → Collected w q (at .group .keys) n
+  collected {gs = gs} ts hp o h = record {
+    size = r .size;
+    short = collects-short w n (arrayTrees ts) h .0;
+    grouping = gs;
+    few = hp .grouping-ok .1;
+    grouping-is = hp .grouping-is;
+    trees = ts;
+    trees-ok = o;
+    trees-is = subst (λ b. Is w b (b + n) (arrayTrees ts)) (ap collectorAt (r .size)) (collects-is w n (arrayTrees ts) (omega (arith, r .size)) h);
+  }
 
-  module _ {x : List ℕ} (l : length x ≡ length w) (from : ℕ) (z : from ≡ collectorAt (length w))
-      (k : Wrote w x 0 (length w) (take (from + n - from) (drop from w)) (At (0 + (from + n - from)))) where
-    moved : (ts : List Tree) → AllowedA ts → Collects w (Len n) (arrayTrees ts) → Gathered x n ts
-    unfolding Collects
-    moved ts a c =
-        let y : from + n - from ≡ n = omega arith in
-        let b : take n (drop from w) ≡ arrayTrees ts = ap (λ i. take n (drop i w)) z ∙ c .2 in
-        let i : Is x 0 (0 + (from + n - from)) (take (from + n - from) (drop from w)) = written k (omega arith) refl in
-        let d : 0 + (from + n - from) ≡ n = omega arith in
-        record {
-          allowed = a;
-          trees-is = subst (λ i2. Is x 0 i2 (arrayTrees ts)) d (subst (λ xs. Is x 0 (0 + (from + n - from)) xs) (ap (λ i2. take i2 (drop from w)) y ∙ b) i);
-        }
+  pub held-collected : Collected w q (at .group .keys) n
+  held-collected = collected (r .trees) (r .plan .pairs) (r .allowed) (r .collects)
 
+  module _ {x : List ℕ} (l : length x ≡ length w) (k : Arranges w x q (at .group .keys) n) where
     pub held-group : GroupReady x n q at j
+    unfolding held-collected collected
     held-group = record {
-      aggregates = r .aggregates;
-      grouping = r .grouping;
-      pairs = r .pairs;
-      trees = r .trees;
-      gathered = moved (r .trees) (r .allowed) (r .collects);
-      short = held-bounds .0;
-      list = r .list;
-      joined = r .joined;
-      planned = r .planned;
-      room = omega (arith, r .room);
-      small = omega (arith, r .small);
+      plan = subst (λ z. GroupPlan z q at j) (sym l) (r .plan);
+      classes = grouped (r .plan .grouping) (r .trees);
+      allowed = grouped-allowed (r .plan .grouping) (r .trees) (r .allowed);
+      stands = k held-collected;
+      short = held-collected .short;
     }
 
     pub held-post : (x2 : List ℕ) (o : Collector) → GroupPost x x2 n q at j o → HeldPost w x2 n q at j o
-    held-post x2 o p ags gs ts ss us a b c d = p ags gs ts ss us a (moved ts b c) d
+    unfolding collected
+    held-post x2 o p ags gs ts ss us hp a h hl = p ags gs (grouped gs ts) ss us hp (grouped-allowed gs ts a) (k (collected ts hp a h)) hl

@@ -7,6 +7,7 @@ pub mod Later
 -- Laws.
 pub mod NextLaws
 pub mod FirstLaws
+pub mod ReadLaws
 pub mod GroupLaws
 pub mod LaterLaws
 pub mod AllLaws

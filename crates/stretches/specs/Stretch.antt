@@ -13,7 +13,8 @@ use Rattle.areas.specs.declared.span.Span.{Span}
 use Rattle.spec_queries.specs.Query.{Pair, Stage}
 use Rattle.queries.specs.Places.{arrayTrees, HoldsOk, Pairs}
 use Rattle.queries.specs.declared.stage.StageAt.{StageAt}
-use Rattle.spec_stages.specs.Group.{Class, classTree, grouped}
+use Rattle.spec_stages.specs.Group.{Class, classTree}
+use Rattle.spec_stages.specs.Flat.{flat}
 use Rattle.spec_stages.specs.Stages.{isGroup, State, going, after, stages}
 use Rattle.stream.specs.declared.collector.Collector.{Collector}
 use Rattle.stretches.specs.declared.next.StretchAt.{StretchAt}
@@ -21,6 +22,7 @@ use Rattle.spec_stages.specs.Stretch.{before}
 use Rattle.stream.specs.Map.{treesMax, rooms, tailMin, groupMin}
 use Rattle.stream.specs.Collector.{Fed}
 use Rattle.stream.specs.Feed.{Planned}
+use Rattle.arrange.specs.Arrange.{Arranged}
 
 -- the collector at the end of v has just the trees of the state
 pub record Shows (v : List ℕ) (r : Collector) (st : State) : Type 0 where
@@ -55,25 +57,25 @@ FirstPost i v q stagesAt j r = (ts : List Tree) (ss : List Stage) (us : List Tre
     → AllowedA ts → Is i 3 (length i) (arrayTrees ts) → Planned q stagesAt j ss us → Shows v r (stages us (before ss) (going ts))
 
 -- ---- a group and the stages behind it
--- the trees of an array, in w up to n
-pub record Gathered (w : List ℕ) (n : ℕ) (ts : List Tree) : Type 0 where
-  pub allowed : AllowedA ts
-  pub trees-is : Is w 0 n (arrayTrees ts)
-
--- such pairs and trees, and the stages behind the group; there is room for the array and the numbers
--- behind it, for a tree at each of the stages, for building and for the collector
-pub record GroupReady (w : List ℕ) (n : ℕ) (q : List ℕ) (at : StretchAt) (j : List ℕ) : Type 0 where
+-- in q stand its pairs and the stages, in j the joined trees; in an area of so many bytes there is room for the front
+-- part, for a tree at each of the stages, for building and for the collector
+pub record GroupPlan (size : ℕ) (q : List ℕ) (at : StretchAt) (j : List ℕ) : Type 0 where
   pub aggregates : List Pair
   pub grouping : List Pair
   pub pairs : Pairs q (at .group) aggregates grouping
-  pub trees : List Tree
-  pub gathered : Gathered w n trees
-  pub short : n ≤ treesMax
   pub list : List Stage
   pub joined : List Tree
   pub planned : Planned q (at .next) j list joined
-  pub room : rooms (length (before list)) + groupMin ≤ length w
-  pub small : length w ≤ workMin
+  pub room : rooms (length (before list)) + groupMin ≤ size
+  pub small : size ≤ workMin
+
+-- the classes stand at the front, up to n
+pub record GroupReady (w : List ℕ) (n : ℕ) (q : List ℕ) (at : StretchAt) (j : List ℕ) : Type 0 where
+  pub plan : GroupPlan (length w) q at j
+  pub classes : List Class
+  pub allowed : AllowedA (flat classes)
+  pub stands : Arranged w n classes
+  pub short : n ≤ treesMax
 
 -- what the trees of these classes become in the stages up to the next group
 unfoldable pub through : List Tree → List Stage → List Pair → List Pair → List Class → State
@@ -81,5 +83,5 @@ through us ss ags gs cs = stages us (before ss) (after (each (classTree ags gs) 
 
 -- whatever stands there, what leaves the stretch was collected
 abbrev pub GroupPost : (w v : List ℕ) (n : ℕ) (q : List ℕ) (at : StretchAt) (j : List ℕ) → Collector → Type 0
-GroupPost w v n q at j r = (ags gs : List Pair) (ts : List Tree) (ss : List Stage) (us : List Tree)
-    → Pairs q (at .group) ags gs → Gathered w n ts → Planned q (at .next) j ss us → Shows v r (through us ss ags gs (grouped gs ts))
+GroupPost w v n q at j r = (ags gs : List Pair) (cs : List Class) (ss : List Stage) (us : List Tree)
+    → Pairs q (at .group) ags gs → AllowedA (flat cs) → Arranged w n cs → Planned q (at .next) j ss us → Shows v r (through us ss ags gs cs)

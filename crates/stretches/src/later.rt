@@ -5,10 +5,9 @@ use crate::group_stretch::regroup;
 use crate::next::Next;
 use crate::next::StretchAt;
 use crate::next::next_group;
-use areas::area::copy_down;
 use areas::span::Span;
+use arrange::arrange::arrange;
 use stream::collector::Collector;
-use stream::map::Map;
 
 /// How a run ends whose last stretch left this in the collector.
 pub fn last(collector: Collector) -> Ended
@@ -21,8 +20,9 @@ pub fn last(collector: Collector) -> Ended
     }
 }
 
-/// The collected array, of whose trees there are `len` bytes, is copied to the front, and grouped there.
-fn next_stretch<'a>(
+/// The collected array, of whose trees there are `len` bytes, is arranged at the front class by class, and the classes
+/// go through the stages up to the next group.
+pub fn next_stretch<'a>(
     work: &mut [u8],
     len: usize,
     query: &'a [u8],
@@ -32,9 +32,8 @@ fn next_stretch<'a>(
     requires { ⌜ HeldReady (now work) len (now query) at (now joined) ⌝ }
     ensures { λ r. ⌜ HeldPost (now (work .entry)) (now (work .exit)) len (now (query .entry)) at (now (joined .entry)) r ⌝ }
 {
-    let from = work.len() - Map::END;
-    let to = from + len;
-    copy_down(work, Span { from, to }, 0);
+    let group = at.group;
+    arrange(work, query, group.keys, len);
     regroup(work, len, query, at, joined)
 }
 

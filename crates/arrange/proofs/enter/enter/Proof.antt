@@ -4,7 +4,7 @@ use mathlib.Core.Path.{refl, sym, ap, _∙_}
 use Rattle.areas.specs.Number.{twoAt}
 use lib.Dec.{eqb}
 use Rattle.arrange.specs.Index.{base, mark}
-use Rattle.arrange.specs.NumberLaws.{put}
+use Rattle.areas.specs.NumberLaws.{put}
 use Rattle.arrange.specs.SearchLaws.{places}
 use Rattle.arrange.specs.EnteringLaws as law
 use borrow.Author.Needs.{needs}

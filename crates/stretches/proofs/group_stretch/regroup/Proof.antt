@@ -1,34 +1,52 @@
 -- Made from Proof.ans by answers.py, which overwrites this file: edit Proof.ans.
 use native.Mathlib.Omega.{arith}
 use borrow.Author.Needs.{needs}
-use mathlib.Core.Path.{sym, _∙_}
+use mathlib.Core.Path.{refl, sym, _∙_}
 use Prim.Native.Nat.{_-_}
+use Rattle.stretches.specs.Grouping.{reached}
 use Rattle.stretches.specs.GroupLaws as law
 use Rattle.stretches.proofs.group_stretch.regroup.Statement.{statement}
 use Rattle.stretches.proofs.group_stretch.regroup.Tie as tie
 use Rattle.stretches.proofs.group_stretch.regroup.Reads as reads
 use Rattle.stretches.proofs.group_stretch.regroup.Lts as lts
+use Rattle.areas.proofs.area.field_end.Reads as field-end-reads
 use Rattle.stream.proofs.collector.is_large.Reads as is-large-reads
-use Rattle.stretches.proofs.group_stretch.feed_subset.Reads as feed-subset-reads
-use Rattle.stretches.proofs.group_stretch.subsets.Reads as subsets-reads
+use Rattle.stretches.proofs.group_stretch.class_end.Reads as class-end-reads
+use Rattle.stretches.proofs.group_stretch.feed_class.Reads as feed-class-reads
 
 abbrev Inv-loop : tie.InvT-loop
-Inv-loop work₀ len query at joined total held₀ k₀ work held k =
-    law.GroupGoing work₀ len query at joined work held total k
+Inv-loop work₀ len query at joined held₀ from₀ count₀ work held from count =
+    law.GroupGoing work₀ len query at joined work held (reached from count)
 
 abbrev μ-loop : tie.MeasureT-loop
-μ-loop work₀ len query at joined total held₀ k₀ work held k = total - k
-
-subsets-requires : tie.Need-subsets-requires Inv-loop μ-loop
-subsets-requires c κs = law.group-pairs (c .before .before .before .before .pre)
+μ-loop work₀ len query at joined held₀ from₀ count₀ work held from count = len - from
 
 loop-holds : tie.Need-loop-holds Inv-loop μ-loop
-loop-holds c = law.group-begin (c .before .before .before .before .before .pre) (c .subsets .result)
+loop-holds c = law.group-begin (c .before .before .before .pre)
 
-feed-subset-requires : tie.Need-feed-subset-requires Inv-loop μ-loop
-feed-subset-requires c κs =
-    law.group-subset (c .before .before .before .before .before .before .before .before .pre)
-    (c .before .before .before .subsets .result) (c .before .before .loop .inv)
+field-end-requires : tie.Need-field-end-requires Inv-loop μ-loop
+field-end-requires c κs =
+    omega (
+      arith,
+      law.group-places (c .before .before .before .before .before .before .pre)
+          (c .before .before .loop .inv) (c .before .loop-test .taken) refl,
+    )
+
+add-t16 : tie.Need-add-t16 Inv-loop μ-loop
+add-t16 c = search needs
+
+class-end-requires : tie.Need-class-end-requires Inv-loop μ-loop
+class-end-requires c κs =
+    law.group-ends (c .before .before .before .before .before .before .before .before .pre)
+    (c .before .before .before .before .loop .inv) (c .before .before .before .loop-test .taken)
+    (c .before .field-end .ensures)
+
+feed-class-requires : tie.Need-feed-class-requires Inv-loop μ-loop
+feed-class-requires c κs =
+    law.group-class (c .before .before .before .before .before .before .before .before .before .before .pre)
+    (c .before .before .before .before .before .before .loop .inv)
+    (c .before .before .before .before .before .loop-test .taken)
+    (c .before .before .before .field-end .ensures) (c .before .class-end .ensures)
 
 is-large-requires : tie.Need-is-large-requires Inv-loop μ-loop
 is-large-requires c κs = search needs
@@ -38,39 +56,36 @@ same-length c = search needs
 
 returns : tie.Need-returns Inv-loop μ-loop
 returns c =
-    law.group-stop (c .before .before .before .before .before .before .before .before .before .before .before .before .before .pre)
-    (c .before .before .before .before .before .before .before .before .subsets .result)
-    (c .before .before .before .before .before .before .before .loop .inv)
-    (c .before .before .before .before .before .before .loop-test .taken)
-    (c .before .before .before .before .feed-subset .kept .0)
-    (c .before .before .before .before .feed-subset .ensures)
-    (c .before .before .before .before .before .before .before .before .subsets .ensures)
-    (sym (c .before .is-large .ensures) ∙ c .if1 .taken) _
-
-add-k : tie.Need-add-k Inv-loop μ-loop
-add-k c =
-    omega (
-      arith,
-      c .before .before .before .before .before .before .before .loop .inv .below,
-      c .before .before .before .before .before .before .loop-test .taken,
-    )
+    law.group-stop (c .before .before .before .before .before .before .before .before .before .before .before .before .before .before .before .pre)
+    (c .before .before .before .before .before .before .before .before .before .before .before .loop .inv)
+    (c .before .before .before .before .before .before .before .before .before .before .loop-test .taken)
+    (c .before .before .before .before .before .before .before .before .field-end .ensures)
+    (c .before .before .before .before .before .before .class-end .ensures)
+    (c .before .before .before .before .feed-class .kept .0)
+    (c .before .before .before .before .feed-class .ensures)
+    (sym (c .before .is-large .ensures) ∙ c .if1 .taken)
 
 loop-less : tie.Need-loop-less Inv-loop μ-loop
 loop-less c =
     omega (
       arith,
-      c .before .before .before .before .before .before .before .loop .inv .below,
-      c .before .before .before .before .before .before .loop-test .taken,
+      law.group-less
+          (c .before .before .before .before .before .before .before .before .before .before .before .before .before .before .before .pre)
+          (c .before .before .before .before .before .before .before .before .before .before .before .loop .inv)
+          (c .before .before .before .before .before .before .before .before .before .before .loop-test .taken)
+          (c .before .before .before .before .before .before .before .before .field-end .ensures)
+          (c .before .before .before .before .before .before .class-end .ensures),
     )
 
 loop-again : tie.Need-loop-again Inv-loop μ-loop
 loop-again c =
-    law.group-again (c .before .before .before .before .before .before .before .before .before .before .before .before .before .pre)
-    (c .before .before .before .before .before .before .before .before .subsets .result)
-    (c .before .before .before .before .before .before .before .loop .inv)
-    (c .before .before .before .before .before .before .loop-test .taken)
-    (c .before .before .before .before .feed-subset .kept .0)
-    (c .before .before .before .before .feed-subset .ensures)
+    law.group-again (c .before .before .before .before .before .before .before .before .before .before .before .before .before .before .before .pre)
+    (c .before .before .before .before .before .before .before .before .before .before .before .loop .inv)
+    (c .before .before .before .before .before .before .before .before .before .before .loop-test .taken)
+    (c .before .before .before .before .before .before .before .before .field-end .ensures)
+    (c .before .before .before .before .before .before .class-end .ensures)
+    (c .before .before .before .before .feed-class .kept .0)
+    (c .before .before .before .before .feed-class .ensures)
     (sym (c .before .is-large .ensures) ∙ c .if1 .left)
 
 same-length-2 : tie.Need-same-length-2 Inv-loop μ-loop
@@ -78,9 +93,8 @@ same-length-2 c = search needs
 
 returns-2 : tie.Need-returns-2 Inv-loop μ-loop
 returns-2 c =
-    law.group-end (c .before .before .before .before .before .before .before .pre)
-    (c .before .before .subsets .result) (c .before .loop .inv)
-    (c .before .before .subsets .ensures) (c .loop-test .left)
+    law.group-end (c .before .before .before .before .before .pre) (c .before .loop .inv)
+    (c .loop-test .left)
 
 pub regroup-spec : {M : Type 1} → statement M
 regroup-spec =
@@ -88,13 +102,14 @@ regroup-spec =
     (tie.spec
     Inv-loop
     μ-loop
-    subsets-requires
     loop-holds
-    feed-subset-requires
+    field-end-requires
+    add-t16
+    class-end-requires
+    feed-class-requires
     is-large-requires
     same-length
     returns
-    add-k
     loop-less
     loop-again
     same-length-2
