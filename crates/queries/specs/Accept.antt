@@ -88,35 +88,31 @@ abbrev pub toldOf : Bool → Told
 toldOf true = Good
 toldOf false = Told.Bad
 
--- of a criterion or data where d levels are left
-abbrev pub toldNested : ℕ → Told
-toldNested zero = Told.Bad
-toldNested (suc d) = Fields d
-
--- what is told of a field where criteria and data may nest d deep
-abbrev pub Tells : ℕ → ℕ → List ℕ → Told → Type 0
-Tells d t c Good = fieldOk d (t, c) ≡ true
-Tells d t c (Fields l) = fieldOk d (t, c) ≡ byRule l t c
-Tells d t c Told.Bad = fieldOk d (t, c) ≡ false
+-- what is told of a field, however deep criteria and data may nest
+abbrev pub Tells : ℕ → List ℕ → Told → Type 0
+Tells t c Good = (d : ℕ) → fieldOk d (t, c) ≡ true
+Tells t c Fields = leaf t ≡ false
+Tells t c Told.Bad = (d : ℕ) → fieldOk d (t, c) ≡ false
 
 -- whether a rule's children behind n others stand in s from a place on
 abbrev pub restOk : ℕ → Rule → ℕ → List ℕ → ℕ → ℕ → Bool
 restOk d x n s at end = contentOk (fieldOk d) x n (slice at end s)
 
 -- a good child, which ends at e
-pub record Passed (d : ℕ) (x : Rule) (n : ℕ) (s : List ℕ) (rest : Span) (e : ℕ) : Type 0 where
+pub record Passed (x : Rule) (n : ℕ) (s : List ℕ) (rest : Span) (e : ℕ) : Type 0 where
   pub rises : rest .from < e
   pub within : e ≤ rest .to
-  pub same : restOk d x n s (rest .from) (rest .to) ≡ restOk d x (n + 1) s e (rest .to)
+  pub same : (d : ℕ) → restOk d x n s (rest .from) (rest .to) ≡ restOk d x (n + 1) s e (rest .to)
 
 -- a child with the tag t that holds fields
-pub record Held (d : ℕ) (x : Rule) (n : ℕ) (s : List ℕ) (rest : Span) (t : ℕ) (c : Span) (l : ℕ) : Type 0 where
+pub record Held (x : Rule) (n : ℕ) (s : List ℕ) (rest : Span) (t : ℕ) (c : Span) : Type 0 where
+  pub holds : leaf t ≡ false
   pub after : rest .from < c .from
   pub order : c .from ≤ c .to
   pub within : c .to ≤ rest .to
-  pub same : restOk d x n s (rest .from) (rest .to) ≡ byRule l t (slice (c .from) (c .to) s) && restOk d x (n + 1) s (c .to) (rest .to)
+  pub same : (d : ℕ) → restOk d x n s (rest .from) (rest .to) ≡ fieldOk d (t, slice (c .from) (c .to) s) && restOk d x (n + 1) s (c .to) (rest .to)
 
-abbrev pub NextIs : ℕ → Rule → ℕ → List ℕ → Span → Next → Type 0
-NextIs d x n s rest (Behind e) = Passed d x n s rest e
-NextIs d x n s rest (Inside t c l) = Held d x n s rest t c l
-NextIs d x n s rest Next.Bad = restOk d x n s (rest .from) (rest .to) ≡ false
+abbrev pub NextIs : Rule → ℕ → List ℕ → Span → Next → Type 0
+NextIs x n s rest (Behind e) = Passed x n s rest e
+NextIs x n s rest (Inside t c) = Held x n s rest t c
+NextIs x n s rest Next.Bad = (d : ℕ) → restOk d x n s (rest .from) (rest .to) ≡ false

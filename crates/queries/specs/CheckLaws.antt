@@ -44,7 +44,7 @@ use Rattle.queries.specs.declared.check.Next.the-variants as Next
 use Rattle.queries.specs.declared.table.Child.{Child}
 use Rattle.queries.specs.declared.table.Rule.{Rule}
 use Rattle.queries.specs.Table.{mayBe, allowed, kindAt, childAt}
-use Rattle.queries.specs.Accept.{fieldOk, childOk, childrenOk, contentOk, byRule, toldOf, Tells, restOk, Passed, Held, NextIs}
+use Rattle.queries.specs.Accept.{fieldOk, childOk, childrenOk, contentOk, leaf, toldOf, Tells, restOk, Passed, Held, NextIs}
 use Rattle.queries.specs.ShapeLaws.{some-only}
 
 -- ---- the table
@@ -245,78 +245,81 @@ module _ (d n : ℕ) (x : Rule) (t : ℕ) (c : List ℕ) where
     child-fails k = rw (lt-ltb n (x .4) count, ← q, k) refl
 
 -- ---- what is told of a field
-module _ (d t : ℕ) (c : List ℕ) where
-  pub leaf-tells : (good : Bool) {r : Told} → r ≡ toldOf good → good ≡ fieldOk d (t, c) → Tells d t c r
-  leaf-tells true e q = subst (Tells d t c) (sym e) (sym q)
-  leaf-tells false e q = subst (Tells d t c) (sym e) (sym q)
+module _ (t : ℕ) (c : List ℕ) where
+  pub leaf-tells : (good : Bool) {r : Told} → r ≡ toldOf good → ((d : ℕ) → good ≡ fieldOk d (t, c)) → Tells t c r
+  leaf-tells true e q = subst (Tells t c) (sym e) (λ d. sym (q d))
+  leaf-tells false e q = subst (Tells t c) (sym e) (λ d. sym (q d))
 
-  module _ {r : Told} (h : Tells d t c r) where
-    told-good : r ≡ Good → fieldOk d (t, c) ≡ true
-    told-good e = subst (Tells d t c) e h
+  module _ {r : Told} (h : Tells t c r) where
+    told-good : r ≡ Good → (d : ℕ) → fieldOk d (t, c) ≡ true
+    told-good e = subst (Tells t c) e h
 
-    told-fields : {l : ℕ} → r ≡ Fields l → fieldOk d (t, c) ≡ byRule l t c
-    told-fields e = subst (Tells d t c) e h
+    told-fields : r ≡ Fields → leaf t ≡ false
+    told-fields e = subst (Tells t c) e h
 
-    told-bad : r ≡ Told.Bad → fieldOk d (t, c) ≡ false
-    told-bad e = subst (Tells d t c) e h
+    told-bad : r ≡ Told.Bad → (d : ℕ) → fieldOk d (t, c) ≡ false
+    told-bad e = subst (Tells t c) e h
 
 -- ---- the next child
-module _ (d : ℕ) (x : Rule) (n : ℕ) (s : List ℕ) (rest : Span) (within : rest .to ≤ length s) where
-  pub next-over : x .4 ≤ n → rest .from < rest .to → restOk d x n s (rest .from) (rest .to) ≡ false
-  next-over l m = go (headAt s (rest .from) (rest .to)) refl
+module _ (x : Rule) (n : ℕ) (s : List ℕ) (rest : Span) (within : rest .to ≤ length s) where
+  pub next-nothing : rest .from < rest .to → headAt s (rest .from) (rest .to) ≡ Nothing → (d : ℕ) → restOk d x n s (rest .from) (rest .to) ≡ false
+  next-nothing m h d = children-nothing s (rest .from) (rest .to) within (fieldOk d) x n m h
+
+  pub next-over : x .4 ≤ n → rest .from < rest .to → (d : ℕ) → restOk d x n s (rest .from) (rest .to) ≡ false
+  next-over l m d = go (headAt s (rest .from) (rest .to)) refl
     where
       go : (h : Head) → headAt s (rest .from) (rest .to) ≡ h → restOk d x n s (rest .from) (rest .to) ≡ false
       go (Field t f e) h = children-bad s (rest .from) (rest .to) within (fieldOk d) x n t f e h (child-over d n x t (slice f e s) l)
-      go Nothing h = children-nothing s (rest .from) (rest .to) within (fieldOk d) x n m h
+      go Nothing h = next-nothing m h d
 
   module _ (t f e : ℕ) (h : headAt s (rest .from) (rest .to) ≡ Field t f e) (count : n < x .4) where
     size : e - f ≡ length (slice f e s)
     size = sym (length-slice f e s (omega (arith, head-found s (rest .from) (rest .to) within t f e h .stop)))
 
-    pub next-other : allowed (childAt x n) t (e - f) ≡ false → restOk d x n s (rest .from) (rest .to) ≡ false
-    next-other k = children-bad s (rest .from) (rest .to) within (fieldOk d) x n t f e h (child-fails d n x t (slice f e s) count (e - f) size k)
+    pub next-other : allowed (childAt x n) t (e - f) ≡ false → (d : ℕ) → restOk d x n s (rest .from) (rest .to) ≡ false
+    next-other k d = children-bad s (rest .from) (rest .to) within (fieldOk d) x n t f e h (child-fails d n x t (slice f e s) count (e - f) size k)
 
     module _ (may : allowed (childAt x n) t (e - f) ≡ true) where
-      next-is : restOk d x n s (rest .from) (rest .to) ≡ fieldOk d (t, slice f e s) && restOk d x (n + 1) s e (rest .to)
-      next-is =
+      next-is : (d : ℕ) → restOk d x n s (rest .from) (rest .to) ≡ fieldOk d (t, slice f e s) && restOk d x (n + 1) s e (rest .to)
+      next-is d =
           children-step s (rest .from) (rest .to) within (fieldOk d) x n t f e h
           ∙ ap (λ b. b && restOk d x (n + 1) s e (rest .to)) (child-passes d n x t (slice f e s) count (e - f) size may)
 
-      next-then : {b : Bool} → fieldOk d (t, slice f e s) ≡ b → restOk d x n s (rest .from) (rest .to) ≡ b && restOk d x (n + 1) s e (rest .to)
-      next-then q = next-is ∙ ap (λ b. b && restOk d x (n + 1) s e (rest .to)) q
+      next-then : (d : ℕ) {b : Bool} → fieldOk d (t, slice f e s) ≡ b → restOk d x n s (rest .from) (rest .to) ≡ b && restOk d x (n + 1) s e (rest .to)
+      next-then d q = next-is d ∙ ap (λ b. b && restOk d x (n + 1) s e (rest .to)) q
 
-      module _ {r : Told} (told : Tells d t (slice f e s) r) where
-        pub next-good : r ≡ Good → Passed d x n s rest e
+      module _ {r : Told} (told : Tells t (slice f e s) r) where
+        pub next-good : r ≡ Good → Passed x n s rest e
         next-good q =
             let p = head-found s (rest .from) (rest .to) within t f e h in
-            record { rises = omega (arith, p .start, p .order); within = p .stop; same = next-then (told-good d t (slice f e s) told q) }
+            record { rises = omega (arith, p .start, p .order); within = p .stop; same = λ d. next-then d (told-good t (slice f e s) told q d) }
 
-        pub next-fields : {l : ℕ} → r ≡ Fields l → Held d x n s rest t (span f e) l
+        pub next-fields : r ≡ Fields → Held x n s rest t (span f e)
         next-fields q =
             let p = head-found s (rest .from) (rest .to) within t f e h in
-            record { after = omega (arith, p .start); order = p .order; within = p .stop; same = next-then (told-fields d t (slice f e s) told q) }
+            record { holds = told-fields t (slice f e s) told q; after = omega (arith, p .start); order = p .order; within = p .stop; same = next-is }
 
-        pub next-bad : r ≡ Told.Bad → restOk d x n s (rest .from) (rest .to) ≡ false
-        next-bad q = next-then (told-bad d t (slice f e s) told q)
+        pub next-bad : r ≡ Told.Bad → (d : ℕ) → restOk d x n s (rest .from) (rest .to) ≡ false
+        next-bad q d = next-then d (told-bad t (slice f e s) told q d)
 
 -- what the answer says
-module _ (d : ℕ) (x : Rule) (n : ℕ) (s : List ℕ) (rest : Span) {r : Next} (h : NextIs d x n s rest r) where
-  pub is-behind : {e : ℕ} → r ≡ Behind e → Passed d x n s rest e
-  is-behind q = subst (NextIs d x n s rest) q h
+module _ (x : Rule) (n : ℕ) (s : List ℕ) (rest : Span) {r : Next} (h : NextIs x n s rest r) where
+  pub is-behind : {e : ℕ} → r ≡ Behind e → Passed x n s rest e
+  is-behind q = subst (NextIs x n s rest) q h
 
-  pub is-inside : {t : ℕ} {c : Span} {l : ℕ} → r ≡ Inside t c l → Held d x n s rest t c l
-  is-inside q = subst (NextIs d x n s rest) q h
+  pub is-inside : {t : ℕ} {c : Span} → r ≡ Inside t c → Held x n s rest t c
+  is-inside q = subst (NextIs x n s rest) q h
 
-  pub is-bad : r ≡ Next.Bad → restOk d x n s (rest .from) (rest .to) ≡ false
-  is-bad q = subst (NextIs d x n s rest) q h
+  pub is-bad : r ≡ Next.Bad → (d : ℕ) → restOk d x n s (rest .from) (rest .to) ≡ false
+  is-bad q = subst (NextIs x n s rest) q h
 
--- the fields inside it decide, and then what is behind it
-module _ {d : ℕ} {x : Rule} {n : ℕ} {s : List ℕ} {rest : Span} {t : ℕ} {c : Span} {l : ℕ} (h : Held d x n s rest t c l) where
-  pub held-good : byRule l t (slice (c .from) (c .to) s) ≡ true → restOk d x n s (rest .from) (rest .to) ≡ restOk d x (n + 1) s (c .to) (rest .to)
-  held-good q = h .same ∙ ap (λ b. b && restOk d x (n + 1) s (c .to) (rest .to)) q
+-- it decides, and then what is behind it
+module _ {x : Rule} {n : ℕ} {s : List ℕ} {rest : Span} {t : ℕ} {c : Span} (h : Held x n s rest t c) (d : ℕ) where
+  pub held-good : fieldOk d (t, slice (c .from) (c .to) s) ≡ true → restOk d x n s (rest .from) (rest .to) ≡ restOk d x (n + 1) s (c .to) (rest .to)
+  held-good q = h .same d ∙ ap (λ b. b && restOk d x (n + 1) s (c .to) (rest .to)) q
 
-  pub held-bad : byRule l t (slice (c .from) (c .to) s) ≡ false → restOk d x n s (rest .from) (rest .to) ≡ false
-  held-bad q = h .same ∙ ap (λ b. b && restOk d x (n + 1) s (c .to) (rest .to)) q
+  pub held-bad : fieldOk d (t, slice (c .from) (c .to) s) ≡ false → restOk d x n s (rest .from) (rest .to) ≡ false
+  held-bad q = h .same d ∙ ap (λ b. b && restOk d x (n + 1) s (c .to) (rest .to)) q
 
 -- ---- the query field
 pub query-field : (d t : ℕ) (c : List ℕ) → t ≡ 16 → some? (queryR (t, c)) ≡ fieldOk d (t, c)

@@ -171,3 +171,11 @@ rules =
 -- the rule of a tag
 unfoldable pub ruleAt : ℕ → Rule
 ruleAt t = getD rules t never
+
+-- the table as the code has it: five numbers for each tag, one row behind another
+abbrev pub ruleBytes : List ℕ
+ruleBytes = rows rules
+  where
+    rows : List Rule → List ℕ
+    rows [] = []
+    rows (r ∷ rs) = r .0 ∷ r .1 ∷ r .2 ∷ r .3 ∷ r .4 ∷ rows rs

@@ -4,7 +4,7 @@ use mathlib.Core.List.{List, [], _∷_}
 use mathlib.Core.Bool.{Bool, true, false, cond, _&&_, _||_, and-true, and-false}
 use mathlib.Core.Option.{Option}
 use mathlib.Core.Logic.{_⊎_, inl, inr}
-use Prim.Native.Nat.{ℕ, zero, suc, _+_, _-_, _≤_, _<_}
+use Prim.Native.Nat.{ℕ, zero, suc, _+_, _-_, _*_, _≤_, _<_}
 use native.Mathlib.Numerals.{sub-one}
 use native.Mathlib.Nat.{zero-add, add-zero}
 use native.Mathlib.Omega.{arith}
@@ -21,10 +21,8 @@ use Rattle.spec_queries.specs.Query.{always, exists, equal, same, negated, both
 use Rattle.spec_queries.specs.Decode.{pathR, pathR⁺, routeR, criterionR, criterionTable, divisorR, dataR, dataTable, itemR, itemTable, pairOf, pairR, pairsR, stageR, stageTable, queryR}
 use Rattle.queries.specs.declared.table.Child.{Child}
 use Rattle.queries.specs.declared.table.Rule.{Rule}
-use Rattle.queries.specs.Table.{child, noTags, range, mayBe, allowed, kinds, kindAt, noChild, arrayChild, stageChild, pathChild, routeChild, givenChild, criterionChild, dataChild, divisorChild, itemChild, pairChild, aggregatesChild, groupingChild, never, rules, ruleAt}
-use Rattle.queries.specs.declared.check.Told.{Told}
-use Rattle.queries.specs.declared.check.Told.the-variants.{Fields}
-use Rattle.queries.specs.Accept.{criterionOk, dataOk, fieldOk, childOk, contentOk, byRule, leaf, nested, deeper, byTable, toldNested, Tells}
+use Rattle.queries.specs.Table.{child, noTags, range, mayBe, allowed, kinds, kindAt, noChild, arrayChild, stageChild, pathChild, routeChild, givenChild, criterionChild, dataChild, divisorChild, itemChild, pairChild, aggregatesChild, groupingChild, rule, never, rules, ruleAt, ruleBytes}
+use Rattle.queries.specs.Accept.{criterionOk, dataOk, fieldOk, childOk, contentOk, byRule, leaf, nested, deeper, byTable}
 use Rattle.queries.specs.ShapeLaws.{some-only, Takes, Reads, one-ok, two-ok, three-ok, many-ok, none-ok, never-ok}
 
 -- ---- kinds: the reader of a kind reads what may stand as a child of it
@@ -302,23 +300,25 @@ listed-row e = let z : _≡_ {A = ℕ} 0 1 = cc in absurd (omega arith)
 other-row : {A : Type 0} {a : A} → false ≡ false → a ≡ a
 other-row e = refl
 
-abbrev pub ruled : List ℕ
-ruled = 51 ∷ 50 ∷ 49 ∷ 48 ∷ 47 ∷ 45 ∷ 44 ∷ 43 ∷ 42 ∷ 41 ∷ 40 ∷ 39 ∷ 38 ∷ 37 ∷ 36 ∷ 35 ∷ 34 ∷ 33 ∷ 21 ∷ 20 ∷ 19 ∷ 18 ∷ 17 ∷ 16 ∷ []
+-- each row of the code's table is the rule of its tag
+abbrev Row : ℕ → Type 0
+Row t = rule (getD ruleBytes (t * 5) 0) (getD ruleBytes (t * 5 + 1) 0) (getD ruleBytes (t * 5 + 2) 0) (getD ruleBytes (t * 5 + 3) 0) (getD ruleBytes (t * 5 + 4) 0) ≡ ruleAt t
 
-pub rule-else : (t : ℕ) → NoneOf t ruled → ruleAt t ≡ never
-unfolding ruleAt has
-rule-else =
-    by-rows ruleAt never ruled 52
-    (other-row also other-row also other-row also other-row also other-row also other-row also other-row also other-row
-    also other-row also other-row also other-row also other-row also other-row also other-row also other-row also other-row
-    also listed-row also listed-row also listed-row also listed-row also listed-row also listed-row
-    also other-row also other-row also other-row also other-row also other-row also other-row also other-row also other-row also other-row also other-row also other-row
-    also listed-row also listed-row also listed-row also listed-row also listed-row also listed-row also listed-row
-    also listed-row also listed-row also listed-row also listed-row also listed-row also listed-row
-    also other-row
-    also listed-row also listed-row also listed-row also listed-row also listed-row
-    also tt)
-    (λ t l. List·getD-eq-default rules never {n = t} l)
+table-rows : Each Row 0 52
+unfolding ruleAt
+table-rows =
+    refl also refl also refl also refl also refl also refl also refl also refl also refl also refl also refl also refl also refl
+    also refl also refl also refl also refl also refl also refl also refl also refl also refl also refl also refl also refl also refl
+    also refl also refl also refl also refl also refl also refl also refl also refl also refl also refl also refl also refl also refl
+    also refl also refl also refl also refl also refl also refl also refl also refl also refl also refl also refl also refl also refl
+    also tt
+
+pub rule-row : (t : ℕ) → t < 52 → Row t
+rule-row t l = rw zero-add at (each-has Row 52 0 table-rows t l)
+
+pub rule-out : (t : ℕ) → 52 ≤ t → ruleAt t ≡ never
+unfolding ruleAt
+rule-out t l = List·getD-eq-default rules never {n = t} l
 
 abbrev pub childKinds : List ℕ
 childKinds = 12 ∷ 11 ∷ 10 ∷ 9 ∷ 8 ∷ 7 ∷ 6 ∷ 5 ∷ 4 ∷ 3 ∷ 2 ∷ 1 ∷ []
@@ -332,29 +332,41 @@ kind-else =
     (λ k l. List·getD-eq-default kinds noTags {n = k} l)
 
 -- ---- the same by the parts of the code
-not-leaf : (t : ℕ) → (t ≡ 1 → ⊥) → (t ≡ 32 → ⊥) → (t ≡ 46 → ⊥) → leaf t ≡ false
+-- where no level is left
+pub criterion-deep : (d : ℕ) (f : Field) → d ≡ 0 → criterionOk d f ≡ false
+unfolding criterionOk criterionR some?
+criterion-deep d f e = rw e refl
+
+pub data-deep : (d : ℕ) (f : Field) → d ≡ 0 → dataOk d f ≡ false
+unfolding dataOk dataR some?
+data-deep d f e = rw e refl
+
+deeper-less : (d t : ℕ) (c : List ℕ) → (d ≡ 0 → ⊥) → deeper d t c ≡ byRule (d - 1) t c
+unfolding deeper
+deeper-less zero t c n = absurd (n refl)
+deeper-less (suc d) t c n = rw (sub-one (suc d)) refl
+
+pub not-leaf : (t : ℕ) → (t ≡ 1 → ⊥) → (t ≡ 32 → ⊥) → (t ≡ 46 → ⊥) → leaf t ≡ false
 unfolding leaf
 not-leaf t a b c = rw (ne-eqb t 1 a, ne-eqb t 32 b, ne-eqb t 46 c) refl
 
-module _ (t : ℕ) (c : List ℕ) where
-  nested-deeper : (d : ℕ) → 33 ≤ t → t ≤ 45 → fieldOk d (t, c) ≡ deeper d t c
+module _ (d t : ℕ) (c : List ℕ) where
+  nested-rule : 33 ≤ t → t ≤ 45 → (d ≡ 0 → ⊥) → fieldOk d (t, c) ≡ byRule (d - 1) t c
   unfolding byTable nested
-  nested-deeper d a b = table-agrees t (not-leaf t (λ e. omega arith) (λ e. omega arith) (λ e. omega arith)) d c ∙ rw (le-leb 33 t a, le-leb t 45 b) refl
+  nested-rule a b n =
+      table-agrees t (not-leaf t (λ e. omega arith) (λ e. omega arith) (λ e. omega arith)) d c
+      ∙ rw (le-leb 33 t a, le-leb t 45 b) (deeper-less d t c n)
 
-  -- a criterion or data
-  pub nested-tells : (d : ℕ) {r : Told} → 33 ≤ t → t ≤ 45 → r ≡ toldNested d → Tells d t c r
-  unfolding deeper
-  nested-tells zero a b e = subst (Tells 0 t c) (sym e) (nested-deeper 0 a b)
-  nested-tells (suc d) a b e = subst (Tells (suc d) t c) (sym e) (nested-deeper (suc d) a b)
+  pub criterion-rule : 33 ≤ t → t ≤ 39 → (d ≡ 0 → ⊥) → criterionOk d (t, c) ≡ byRule (d - 1) t c
+  criterion-rule a b n = sym (criterion-field d t c a b) ∙ nested-rule a (omega arith) n
 
-  pub other-rule : (d : ℕ) → (t ≡ 1 → ⊥) → (t ≡ 32 → ⊥) → (t ≡ 46 → ⊥) → Outside 33 45 t → fieldOk d (t, c) ≡ byRule nestMax t c
+  pub data-rule : 40 ≤ t → t ≤ 45 → (d ≡ 0 → ⊥) → dataOk d (t, c) ≡ byRule (d - 1) t c
+  data-rule a b n = sym (data-field d t c a b) ∙ nested-rule (omega arith) b n
+
+  pub other-rule : leaf t ≡ false → Outside 33 45 t → fieldOk d (t, c) ≡ byRule nestMax t c
   unfolding byTable nested
-  other-rule d u v w o = table-agrees t (not-leaf t u v w) d c ∙ go o
+  other-rule n o = table-agrees t n d c ∙ go o
     where
       go : Outside 33 45 t → cond (leb 33 t && leb t 45) (deeper d t c) (byRule nestMax t c) ≡ byRule nestMax t c
       go (inl l) = rw (lt-leb 33 t l) refl
       go (inr l) = rw (lt-leb t 45 l, and-false (leb 33 t)) refl
-
-pub nested-less : (d : ℕ) → (d ≡ 0 → ⊥) → toldNested d ≡ Fields (d - 1)
-nested-less zero n = absurd (n refl)
-nested-less (suc d) n = rw (sub-one (suc d)) refl

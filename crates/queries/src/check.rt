@@ -13,6 +13,7 @@ use format::head;
 use format::head::Head;
 use format::limits::Limits;
 use format::view;
+ghost use mathlib.Core.Bool.{false};
 ghost use mathlib.Core.Path.{_≡_};
 ghost use Prim.Native.Nat.{_≤_, _<_};
 ghost use lib.ListN.{length};
@@ -21,7 +22,8 @@ ghost use Rattle.spec_trees.specs.Options.{some?};
 ghost use Rattle.spec_trees.specs.Tree.{isLabel};
 ghost use Rattle.spec_queries.specs.Decode.{divisorR, queryR, readQuery};
 ghost use Rattle.spec_queries.specs.Query.{isPath};
-ghost use Rattle.queries.specs.Accept.{byRule, toldOf, toldNested, Tells, NextIs};
+ghost use Rattle.queries.specs.Accept.{leaf, criterionOk, dataOk, fieldOk, byRule, toldOf, Tells, NextIs};
+ghost use Rattle.queries.specs.Table.{ruleBytes};
 ghost use Rattle.format.specs.Check.{checkOf};
 
 /// A label: 1 to its limit.
@@ -70,11 +72,10 @@ fn check_divisor(area: &[u8], content: Span) -> bool
     n <= Limits::DIVISOR
 }
 
-/// What the check of a field without those inside it comes to: it is good; it is good if the fields inside it are, where
-/// criteria and data may nest so deep; or it is bad.
+/// What the check of a field that may hold no fields comes to; or it holds fields, which are to be checked.
 pub enum Told {
     Good,
-    Fields(usize),
+    Fields,
     Bad,
 }
 
@@ -82,7 +83,7 @@ pub enum Told {
 /// there.
 pub enum Next {
     Behind(usize),
-    Inside { tag: u8, content: Span, left: usize },
+    Inside { tag: u8, content: Span },
     Bad,
 }
 
@@ -93,35 +94,23 @@ fn tell(good: bool) -> Told
     if good { Told::Good } else { Told::Bad }
 }
 
-/// A criterion or data: it counts 1, and what it holds nests one level less deep.
-fn nested(left: usize) -> Told
-    ensures { λ r. ⌜ r ≡ toldNested left ⌝ }
-{
-    if left == 0 {
-        return Told::Bad;
-    }
-    Told::Fields(left - 1)
-}
-
-/// Any field by its tag and content, where criteria and data may nest `left` deep. Below a stage, an item or a pair,
-/// which are in no criterion and in no data, all levels are left.
-fn check_field(area: &[u8], tag: u8, content: Span, left: usize) -> Told
+/// A field by its tag and content, if it may hold no fields: an array, a path, a divisor.
+fn check_leaf(area: &[u8], tag: u8, content: Span) -> Told
     requires { ⌜ (content .from ≤ content .to) × (content .to ≤ length (now area)) ⌝ }
-    ensures { λ r. ⌜ Tells left tag (slice (content .from) (content .to) (now (area .entry))) r ⌝ }
+    ensures { λ r. ⌜ Tells tag (slice (content .from) (content .to) (now (area .entry))) r ⌝ }
 {
     match tag {
         1 => tell(check::check_array_field(area, tag, content, Limits::DEPTH)),
         32 => tell(check_path(area, content)),
-        33..=45 => nested(left),
         46 => tell(check_divisor(area, content)),
-        _ => Told::Fields(Limits::NEST),
+        _ => Told::Fields,
     }
 }
 
 /// The field that stands first in `rest`, as a child behind `count` others.
-fn next_child(area: &[u8], rule: Rule, count: usize, rest: Span, left: usize) -> Next
+fn next_child(area: &[u8], rule: Rule, count: usize, rest: Span) -> Next
     requires { ⌜ (rest .from < rest .to) × (rest .to ≤ length (now area)) ⌝ }
-    ensures { λ r. ⌜ NextIs left rule count (now (area .entry)) rest r ⌝ }
+    ensures { λ r. ⌜ NextIs rule count (now (area .entry)) rest r ⌝ }
 {
     if wide(rule.4) <= count {
         return Next::Bad;
@@ -134,30 +123,26 @@ fn next_child(area: &[u8], rule: Rule, count: usize, rest: Span, left: usize) ->
         return Next::Bad;
     }
     let content = Span { from, to };
-    let t = check_field(area, tag, content, left);
+    let t = check_leaf(area, tag, content);
     match t {
         Told::Good => Next::Behind(to),
-        Told::Fields(deep) => Next::Inside {
-            tag,
-            content,
-            left: deep,
-        },
+        Told::Fields => Next::Inside { tag, content },
         Told::Bad => Next::Bad,
     }
 }
 
-/// The fields inside a field, by its tag, as its rule says: each child in its place, not too many and not too few. Only
-/// for a child that holds fields itself is this called again.
-fn check_inside(area: &[u8], field: u8, content: Span, left: usize) -> bool
-    requires { ⌜ (content .from ≤ content .to) × (content .to ≤ length (now area)) ⌝ }
+/// The fields inside a field, by its tag, as its rule says: each child in its place, not too many and not too few.
+/// Criteria and data among them may nest `left` deep.
+fn check_inside(area: &[u8], rules: &[u8], field: u8, content: Span, left: usize) -> bool
+    requires { ⌜ (content .from ≤ content .to) × (content .to ≤ length (now area)) × (now rules ≡ ruleBytes) ⌝ }
     ensures { λ r. ⌜ r ≡ byRule left field (slice (content .from) (content .to) (now (area .entry))) ⌝ }
 {
-    let rule = table::rule_of(field);
+    let rule = table::rule_of(rules, field);
     let end = content.to;
     let mut at = content.from;
     let mut count: usize = 0;
     while at != end {
-        let n = next_child(area, rule, count, Span { from: at, to: end }, left);
+        let n = next_child(area, rule, count, Span { from: at, to: end });
         match n {
             Next::Behind(to) => {
                 count += 1;
@@ -166,9 +151,8 @@ fn check_inside(area: &[u8], field: u8, content: Span, left: usize) -> bool
             Next::Inside {
                 tag,
                 content: inner,
-                left: deep,
             } => {
-                if check_inside(area, tag, inner, deep) {
+                if check_field(area, rules, tag, inner, left) {
                     count += 1;
                     at = inner.to;
                 } else {
@@ -183,13 +167,50 @@ fn check_inside(area: &[u8], field: u8, content: Span, left: usize) -> bool
     wide(rule.3) <= count
 }
 
+/// A field that holds fields, by its tag and content, where criteria and data may nest `left` deep. Below a stage, an
+/// item or a pair, which are in no criterion and in no data, all levels are left.
+fn check_field(area: &[u8], rules: &[u8], tag: u8, content: Span, left: usize) -> bool
+    requires { ⌜ (content .from ≤ content .to) × (content .to ≤ length (now area)) × (now rules ≡ ruleBytes) × (leaf tag ≡ false) ⌝ }
+    ensures { λ r. ⌜ r ≡ fieldOk left (tag, slice (content .from) (content .to) (now (area .entry))) ⌝ }
+{
+    match tag {
+        33..=39 => check_criterion(area, rules, tag, content, left),
+        40..=45 => check_data(area, rules, tag, content, left),
+        _ => check_inside(area, rules, tag, content, Limits::NEST),
+    }
+}
+
+/// A criterion by its tag and content: it counts 1, and what it holds nests one level less deep.
+fn check_criterion(area: &[u8], rules: &[u8], tag: u8, content: Span, left: usize) -> bool
+    requires { ⌜ (content .from ≤ content .to) × (content .to ≤ length (now area)) × (now rules ≡ ruleBytes) × (33 ≤ tag) × (tag ≤ 39) ⌝ }
+    ensures { λ r. ⌜ r ≡ criterionOk left (tag, slice (content .from) (content .to) (now (area .entry))) ⌝ }
+{
+    if left == 0 {
+        return false;
+    }
+    check_inside(area, rules, tag, content, left - 1)
+}
+
+/// Data by their tag and content, lists and choices among them: they count 1, and what they hold nests one level less
+/// deep.
+fn check_data(area: &[u8], rules: &[u8], tag: u8, content: Span, left: usize) -> bool
+    requires { ⌜ (content .from ≤ content .to) × (content .to ≤ length (now area)) × (now rules ≡ ruleBytes) × (40 ≤ tag) × (tag ≤ 45) ⌝ }
+    ensures { λ r. ⌜ r ≡ dataOk left (tag, slice (content .from) (content .to) (now (area .entry))) ⌝ }
+{
+    if left == 0 {
+        return false;
+    }
+    check_inside(area, rules, tag, content, left - 1)
+}
+
 /// A query field by its tag and content.
 fn check_query_field(area: &[u8], tag: u8, content: Span) -> bool
     requires { ⌜ (content .from ≤ content .to) × (content .to ≤ length (now area)) ⌝ }
     ensures { λ r. ⌜ r ≡ some? (queryR (tag, slice (content .from) (content .to) (now (area .entry)))) ⌝ }
 {
     if tag == 16 {
-        check_inside(area, tag, content, Limits::NEST)
+        let rules = table::RULES;
+        check_inside(area, &rules[..], tag, content, Limits::NEST)
     } else {
         false
     }

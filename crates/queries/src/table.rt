@@ -1,9 +1,9 @@
-//! The table: for each tag the tags that may stand inside it, in which order and how many. It is one function, `rule_of`,
+//! The table: for each tag the tags that may stand inside it, in which order and how many. It is one constant, `RULES`,
 //! which the checker consults, so that what a query is made of is said in one place. Its rows name kinds of children by
-//! number. A match and no constant array: the compiler would store the whole array anew at each look.
+//! number.
 use format::limits::Limits;
 ghost use mathlib.Core.Path.{_≡_};
-ghost use Rattle.queries.specs.Table.{mayBe, allowed, kindAt, childAt, ruleAt};
+ghost use Rattle.queries.specs.Table.{mayBe, allowed, kindAt, childAt, ruleAt, ruleBytes};
 
 /// What a child may be: its tag is the first number to the second, or the third, or the fourth, and its content has at
 /// least the fifth in bytes. The two further tags are wider than a byte, so that there is a number that no tag is.
@@ -42,62 +42,340 @@ const AGGREGATES: u8 = 11;
 
 const GROUPING: u8 = 12;
 
-/// The rule of a tag. 0 to 15 belong to trees, and what is not listed is no tag or holds no fields: no content passes,
-/// not even an empty one, since the least count is above the greatest.
-pub fn rule_of(tag: u8) -> Rule
+/// The table: by tag, the five numbers of its rule. Where the least count is above the greatest, no content passes, not
+/// even an empty one: 0 to 15 belong to trees, 22 to 31 are no tags, a path and a divisor hold no fields.
+pub const RULES: [u8; 260] = [
+    // 0
+    NONE,
+    NONE,
+    NONE,
+    1,
+    0,
+    // 1
+    NONE,
+    NONE,
+    NONE,
+    1,
+    0,
+    // 2
+    NONE,
+    NONE,
+    NONE,
+    1,
+    0,
+    // 3
+    NONE,
+    NONE,
+    NONE,
+    1,
+    0,
+    // 4
+    NONE,
+    NONE,
+    NONE,
+    1,
+    0,
+    // 5
+    NONE,
+    NONE,
+    NONE,
+    1,
+    0,
+    // 6
+    NONE,
+    NONE,
+    NONE,
+    1,
+    0,
+    // 7
+    NONE,
+    NONE,
+    NONE,
+    1,
+    0,
+    // 8
+    NONE,
+    NONE,
+    NONE,
+    1,
+    0,
+    // 9
+    NONE,
+    NONE,
+    NONE,
+    1,
+    0,
+    // 10
+    NONE,
+    NONE,
+    NONE,
+    1,
+    0,
+    // 11
+    NONE,
+    NONE,
+    NONE,
+    1,
+    0,
+    // 12
+    NONE,
+    NONE,
+    NONE,
+    1,
+    0,
+    // 13
+    NONE,
+    NONE,
+    NONE,
+    1,
+    0,
+    // 14
+    NONE,
+    NONE,
+    NONE,
+    1,
+    0,
+    // 15
+    NONE,
+    NONE,
+    NONE,
+    1,
+    0,
+    // 16 query
+    STAGE,
+    STAGE,
+    STAGE,
+    0,
+    Limits::STAGES as u8,
+    // 17 match
+    CRITERION,
+    NONE,
+    NONE,
+    1,
+    1,
+    // 18 unwind
+    PATH,
+    NONE,
+    NONE,
+    1,
+    1,
+    // 19 project
+    ITEM,
+    ITEM,
+    ITEM,
+    1,
+    Limits::ITEMS as u8,
+    // 20 group
+    AGGREGATES,
+    GROUPING,
+    NONE,
+    2,
+    2,
+    // 21 lookup
+    ROUTE,
+    ROUTE,
+    GIVEN,
+    3,
+    3,
+    // 22
+    NONE,
+    NONE,
+    NONE,
+    1,
+    0,
+    // 23
+    NONE,
+    NONE,
+    NONE,
+    1,
+    0,
+    // 24
+    NONE,
+    NONE,
+    NONE,
+    1,
+    0,
+    // 25
+    NONE,
+    NONE,
+    NONE,
+    1,
+    0,
+    // 26
+    NONE,
+    NONE,
+    NONE,
+    1,
+    0,
+    // 27
+    NONE,
+    NONE,
+    NONE,
+    1,
+    0,
+    // 28
+    NONE,
+    NONE,
+    NONE,
+    1,
+    0,
+    // 29
+    NONE,
+    NONE,
+    NONE,
+    1,
+    0,
+    // 30
+    NONE,
+    NONE,
+    NONE,
+    1,
+    0,
+    // 31
+    NONE,
+    NONE,
+    NONE,
+    1,
+    0,
+    // 32
+    NONE,
+    NONE,
+    NONE,
+    1,
+    0,
+    // 33 true
+    NONE,
+    NONE,
+    NONE,
+    0,
+    0,
+    // 34 exists
+    ROUTE,
+    NONE,
+    NONE,
+    1,
+    1,
+    // 35 equal
+    ROUTE,
+    ARRAY,
+    NONE,
+    2,
+    2,
+    // 36 same
+    ROUTE,
+    ROUTE,
+    NONE,
+    2,
+    2,
+    // 37 not
+    CRITERION,
+    NONE,
+    NONE,
+    1,
+    1,
+    // 38 and
+    CRITERION,
+    CRITERION,
+    NONE,
+    2,
+    2,
+    // 39 or
+    CRITERION,
+    CRITERION,
+    NONE,
+    2,
+    2,
+    // 40 literal
+    ARRAY,
+    NONE,
+    NONE,
+    1,
+    1,
+    // 41 path, as data
+    ROUTE,
+    NONE,
+    NONE,
+    1,
+    1,
+    // 42 list
+    DATA,
+    DATA,
+    DATA,
+    1,
+    Limits::MEMBERS as u8,
+    // 43 criterion, as data
+    CRITERION,
+    NONE,
+    NONE,
+    1,
+    1,
+    // 44 choice
+    CRITERION,
+    DATA,
+    DATA,
+    3,
+    3,
+    // 45 reduced
+    ROUTE,
+    DIVISOR,
+    NONE,
+    2,
+    2,
+    // 46
+    NONE,
+    NONE,
+    NONE,
+    1,
+    0,
+    // 47 keep
+    PATH,
+    NONE,
+    NONE,
+    1,
+    1,
+    // 48 place
+    DATA,
+    GIVEN,
+    NONE,
+    2,
+    2,
+    // 49 pair
+    ROUTE,
+    GIVEN,
+    NONE,
+    2,
+    2,
+    // 50 aggregates
+    PAIR,
+    PAIR,
+    PAIR,
+    0,
+    Limits::AGGREGATES as u8,
+    // 51 grouping
+    PAIR,
+    PAIR,
+    PAIR,
+    0,
+    Limits::GROUPING as u8,
+];
+
+/// The rule of a tag, from the table, which is lent: the compiler stores a constant anew wherever it is named. A tag that
+/// the table does not have may hold nothing.
+pub fn rule_of(rules: &[u8], tag: u8) -> Rule
+    requires { ⌜ now rules ≡ ruleBytes ⌝ }
     ensures { λ r. ⌜ r ≡ ruleAt tag ⌝ }
 {
-    match tag {
-        // query
-        16 => Rule(STAGE, STAGE, STAGE, 0, Limits::STAGES as u8),
-        // match
-        17 => Rule(CRITERION, NONE, NONE, 1, 1),
-        // unwind
-        18 => Rule(PATH, NONE, NONE, 1, 1),
-        // project
-        19 => Rule(ITEM, ITEM, ITEM, 1, Limits::ITEMS as u8),
-        // group
-        20 => Rule(AGGREGATES, GROUPING, NONE, 2, 2),
-        // lookup
-        21 => Rule(ROUTE, ROUTE, GIVEN, 3, 3),
-        // true
-        33 => Rule(NONE, NONE, NONE, 0, 0),
-        // exists
-        34 => Rule(ROUTE, NONE, NONE, 1, 1),
-        // equal
-        35 => Rule(ROUTE, ARRAY, NONE, 2, 2),
-        // same
-        36 => Rule(ROUTE, ROUTE, NONE, 2, 2),
-        // not
-        37 => Rule(CRITERION, NONE, NONE, 1, 1),
-        // and
-        38 => Rule(CRITERION, CRITERION, NONE, 2, 2),
-        // or
-        39 => Rule(CRITERION, CRITERION, NONE, 2, 2),
-        // literal
-        40 => Rule(ARRAY, NONE, NONE, 1, 1),
-        // path, as data
-        41 => Rule(ROUTE, NONE, NONE, 1, 1),
-        // list
-        42 => Rule(DATA, DATA, DATA, 1, Limits::MEMBERS as u8),
-        // criterion, as data
-        43 => Rule(CRITERION, NONE, NONE, 1, 1),
-        // choice
-        44 => Rule(CRITERION, DATA, DATA, 3, 3),
-        // reduced
-        45 => Rule(ROUTE, DIVISOR, NONE, 2, 2),
-        // keep
-        47 => Rule(PATH, NONE, NONE, 1, 1),
-        // place
-        48 => Rule(DATA, GIVEN, NONE, 2, 2),
-        // pair
-        49 => Rule(ROUTE, GIVEN, NONE, 2, 2),
-        // aggregates
-        50 => Rule(PAIR, PAIR, PAIR, 0, Limits::AGGREGATES as u8),
-        // grouping
-        51 => Rule(PAIR, PAIR, PAIR, 0, Limits::GROUPING as u8),
-        _ => Rule(NONE, NONE, NONE, 1, 0),
+    if 51 < tag {
+        return Rule(NONE, NONE, NONE, 1, 0);
     }
+    let i = tag as usize * 5;
+    Rule(
+        rules[i],
+        rules[i + 1],
+        rules[i + 2],
+        rules[i + 3],
+        rules[i + 4],
+    )
 }
 
 /// What a child of a kind may be. Where a kind has no further tags, its first tag stands for them. No child: no tag is 1
