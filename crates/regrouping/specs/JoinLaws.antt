@@ -17,15 +17,15 @@ lent s = take (length s - 3) (drop 3 s)
 lent-is : (s : List ℕ) → lent s ≡ drop 3 s
 lent-is s = take-all (length s - 3) (drop 3 s) (omega (arith, length-drop 3 s))
 
-module _ (a : List ℕ) {w x : List ℕ} {stop : ℕ} {r : Out} (h : Wrote w x 0 stop (lent a) r) where
-  first : Wrote w x 0 stop (drop 3 a) r
-  first = subst (λ l. Wrote w x 0 stop l r) (lent-is a) h
+module _ (a : List ℕ) {w x : List ℕ} {d stop : ℕ} {r : Out} (h : Wrote w x d stop (lent a) r) where
+  first : Wrote w x d stop (drop 3 a) r
+  first = subst (λ l. Wrote w x d stop l r) (lent-is a) h
 
-  pub join-fails : (b : List ℕ) → r ≡ TooLarge → Wrote w x 0 stop (drop 3 a ++ drop 3 b) TooLarge
+  pub join-fails : (b : List ℕ) → r ≡ TooLarge → Wrote w x d stop (drop 3 a ++ drop 3 b) TooLarge
   join-fails b z = wrote-fail first (drop 3 b) z
 
   pub join-ends : {m : ℕ} → r ≡ At m → m ≤ stop
   join-ends {m} z = first .fits m z .room
 
-  pub join-both : (b : List ℕ) {m : ℕ} → r ≡ At m → {v : List ℕ} {o : Out} → Wrote x v m stop (lent b) o → Wrote w v 0 stop (drop 3 a ++ drop 3 b) o
-  join-both b {m} z {v} {o} k = wrote-seq first (omega arith) z (subst (λ l. Wrote x v m stop l o) (lent-is b) k)
+  pub join-both : (b : List ℕ) → d ≤ length w → {m : ℕ} → r ≡ At m → {v : List ℕ} {o : Out} → Wrote x v m stop (lent b) o → Wrote w v d stop (drop 3 a ++ drop 3 b) o
+  join-both b l {m} z {v} {o} k = wrote-seq first l z (subst (λ i. Wrote x v m stop i o) (lent-is b) k)

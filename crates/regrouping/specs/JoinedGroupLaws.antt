@@ -1,14 +1,14 @@
 -- The join of two arrays, grouped again, comes to what the regrouping gives of the joined trees.
 use mathlib.Core.Path.{_≡_, sym, ap, ap₂, subst, _∙_}
 use mathlib.Core.List.{List, [], _++_, map}
-use Prim.Native.Nat.{ℕ, _≤_}
+use Prim.Native.Nat.{ℕ, _+_, _-_, _≤_}
 use native.Mathlib.Omega.{arith}
-use lib.ListN.{length, drop}
+use lib.ListN.{length, take, drop}
 use lib.Seq.{take-all}
 use Rattle.spec_trees.specs.ListLaws.{All-append}
 use Rattle.spec_trees.specs.Tree.{Tree}
 use Rattle.spec_trees.specs.Bytes.{bytes, treeFs, arrayBytes}
-use Rattle.spec_trees.specs.Within.{Within}
+use Rattle.spec_trees.specs.Within.{Within, AllowedA}
 use Rattle.spec_queries.specs.Query.{Pair}
 use Rattle.spec_queries.specs.Again.{again}
 use Rattle.spec_queries.specs.RegroupingLaws.{ok-again, group-short}
@@ -16,22 +16,24 @@ use Rattle.spec_stages.specs.Stages.{stages}
 use Rattle.spec_stages.specs.LeaveLaws.{group-step, group-long}
 use Rattle.spec_stages.specs.Stretch.{before}
 use Rattle.areas.specs.Area.{Is, Wrote, span}
-use Rattle.areas.specs.AreaLaws.{written}
+use Rattle.areas.specs.AreaLaws.{written, is-part}
 use Rattle.areas.specs.declared.area.Out.{Out}
 use Rattle.areas.specs.declared.area.Out.the-variants.{At, TooLarge}
 use Rattle.queries.specs.Places.{arrayTrees, Pairs}
 use Rattle.queries.specs.TreesLaws.{array-reads}
 use Rattle.queries.specs.declared.stage.GroupAt.{GroupAt}
 use Rattle.paths.specs.ComparedLaws.{is-none, trees-append}
-use Rattle.stream.specs.Map.{treesMax}
+use Rattle.stream.specs.Map.{treesMax, collectorAt}
+use Rattle.stream.specs.Collector.{Collects}
 use Rattle.stream.specs.Feed.{Planned}
 use Rattle.stream.specs.declared.collector.Collector.{Collector}
+use Rattle.stream.specs.declared.collector.Collector.the-variants.{Len}
 use Rattle.stretches.specs.declared.ended.Ended.{Ended}
 use Rattle.stretches.specs.declared.next.StretchAt.{StretchAt}
 use Rattle.stretches.specs.Ended.{EndedIs}
 use Rattle.stretches.specs.Next.{stretchAt}
-use Rattle.stretches.specs.Stretch.{Gathered, GroupReady, GroupPost, through}
-use Rattle.stretches.specs.Later.{LastPost}
+use Rattle.stretches.specs.Stretch.{through}
+use Rattle.stretches.specs.Later.{LastPost, HeldReady, HeldPost}
 use Rattle.stretches.specs.LaterLaws.{size-is, ends-long}
 use Rattle.trays.specs.Again.{GroupRoom, GroupWritten}
 use Rattle.regrouping.specs.JoinedGroup.{RegroupReady, Regroups}
@@ -48,29 +50,37 @@ trees-of s ts e = ap (drop 3) (sym (take-all (length s) s (omega arith))) ∙ ar
 pub head-inside : (s : List ℕ) (ts : List Tree) → s ≡ arrayBytes ts → 3 ≤ length s
 head-inside s ts e = omega (arith, array-reads s ts e .ends)
 
-module _ {a b w x : List ℕ} {r : Out} (k : Wrote w x 0 treesMax (drop 3 a ++ drop 3 b) r) where
-  joined : (ts us : List Tree) → a ≡ arrayBytes ts → b ≡ arrayBytes us → Wrote w x 0 treesMax (arrayTrees (ts ++ us)) r
-  joined ts us ea eb = subst (λ l. Wrote w x 0 treesMax l r) (ap₂ _++_ (trees-of a ts ea) (trees-of b us eb) ∙ sym (trees-append ts us)) k
+module _ {a b w x : List ℕ} {d : ℕ} {r : Out} (k : Wrote w x d (d + treesMax) (drop 3 a ++ drop 3 b) r) where
+  joined : (ts us : List Tree) → a ≡ arrayBytes ts → b ≡ arrayBytes us → Wrote w x d (d + treesMax) (arrayTrees (ts ++ us)) r
+  joined ts us ea eb = subst (λ l. Wrote w x d (d + treesMax) l r) (ap₂ _++_ (trees-of a ts ea) (trees-of b us eb) ∙ sym (trees-append ts us)) k
 
   -- more than an array may have
   pub joined-long : {q : List ℕ} {at : GroupAt} → r ≡ TooLarge → Regroups q at a b x Ended.Long
   unfolding stages
-  joined-long z ag gs ts us p d ea oa eb ob =
+  joined-long z ag gs ts us p _ ea oa eb ob =
       ends-long x (group-long [] (map again ag) (map again gs) (ts ++ us) (omega (arith, joined ts us ea eb .large z .over, size-is (ts ++ us))))
 
-  module _ {n : ℕ} (z : r ≡ At n) where
-    gathered : (ts us : List Tree) → a ≡ arrayBytes ts → Within ts → b ≡ arrayBytes us → Within us → Gathered x n (ts ++ us)
-    gathered ts us ea oa eb ob = record {
-      allowed = All-append _ ts us (oa .allowed) (ob .allowed);
-      trees-is = written (joined ts us ea eb) (omega arith) z;
-    }
+  module _ {e : ℕ} (z : r ≡ At e) {q : List ℕ} {at : GroupAt} (h : RegroupReady q at a b w) (y : d ≡ collectorAt (length w)) (l : length x ≡ length w) where
+    -- the collector holds the joined trees
+    collects : (ts us : List Tree) → a ≡ arrayBytes ts → b ≡ arrayBytes us → Collects x (Len (e - d)) (arrayTrees (ts ++ us))
+    unfolding Collects
+    collects ts us ea eb =
+        let i : Is x d e (arrayTrees (ts ++ us)) = written (joined ts us ea eb) (omega (arith, h .size)) z in
+        let room = joined ts us ea eb .fits e z .room in
+        let place : collectorAt (length x) ≡ d = ap collectorAt l ∙ sym y in
+        (omega (arith, i .ends), omega arith, ap (λ p. take (e - d) (drop p x)) place ∙ is-part i)
 
-    joined-short : (ts us : List Tree) → a ≡ arrayBytes ts → b ≡ arrayBytes us → n ≤ treesMax
-    joined-short ts us ea eb = joined ts us ea eb .fits n z .room
+    pub joined-above : d ≤ e
+    joined-above = omega (arith, joined (h .first) (h .second) (h .first-is) (h .second-is) .fits e z .ends)
+
+    both-allowed : (ts us : List Tree) → Within ts → Within us → AllowedA (ts ++ us)
+    both-allowed ts us oa ob = All-append _ ts us (oa .allowed) (ob .allowed)
+
+    joined-short : (ts us : List Tree) → a ≡ arrayBytes ts → b ≡ arrayBytes us → length (arrayTrees (ts ++ us)) ≤ treesMax
+    joined-short ts us ea eb = let f = joined ts us ea eb .fits e z in omega (arith, f .ends, f .room)
 
     -- ---- its group, by the pairs that were written to s
-    module _ {q : List ℕ} {at : GroupAt} (h : RegroupReady q at a b w) (l : length x ≡ length w)
-        {s : List ℕ} {g : GroupAt} (i : GroupWritten s q at g) where
+    module _ {s : List ℕ} {g : GroupAt} (i : GroupWritten s q at g) where
       pairs-of : (ag gs : List Pair) → Pairs q at ag gs → Pairs s g (map again ag) (map again gs)
       pairs-of ag gs p =
           let c = i ag gs (p .aggregates-is) (p .grouping-is) in
@@ -92,28 +102,31 @@ module _ {a b w x : List ℕ} {r : Out} (k : Wrote w x 0 treesMax (drop 3 a ++ d
             joined-is = subst (λ m. Is j 3 m (arrayTrees [])) (sym e) (is-none (omega arith));
           }
 
-      pub again-ready : (j : List ℕ) → length j ≡ 3 → GroupReady x n s (nowhere g) j
+      pub again-ready : (j : List ℕ) → length j ≡ 3 → HeldReady x (e - d) s (nowhere g) j
       unfolding before
-      again-ready j e = record {
-        aggregates = map again (h .aggregates);
-        grouping = map again (h .grouping);
-        pairs = pairs-of (h .aggregates) (h .grouping) (h .pairs);
+      again-ready j o = record {
+        plan = record {
+          aggregates = map again (h .aggregates);
+          grouping = map again (h .grouping);
+          pairs = pairs-of (h .aggregates) (h .grouping) (h .pairs);
+          list = [];
+          joined = [];
+          planned = planned-of j o;
+          room = omega (arith, h .size);
+          small = omega (arith, h .size);
+        };
         trees = h .first ++ h .second;
-        gathered = gathered (h .first) (h .second) (h .first-is) (h .first-ok) (h .second-is) (h .second-ok);
-        short = joined-short (h .first) (h .second) (h .first-is) (h .second-is);
-        list = [];
-        joined = [];
-        planned = planned-of j e;
-        room = omega (arith, h .size);
-        small = omega (arith, h .size);
+        allowed = both-allowed (h .first) (h .second) (h .first-ok) (h .second-ok);
+        collects = collects (h .first) (h .second) (h .first-is) (h .second-is);
+        size = l ∙ h .size;
       }
 
-      pub again-ended : (j : List ℕ) → length j ≡ 3 → {v : List ℕ} {c : Collector} {o : Ended} → length v ≡ length x → GroupPost x v n s (nowhere g) j c → LastPost c o
+      pub again-ended : (j : List ℕ) → length j ≡ 3 → {v : List ℕ} {c : Collector} {o : Ended} → length v ≡ length x → HeldPost x v (e - d) s (nowhere g) j c → LastPost c o
           → Regroups q at a b v o
       unfolding stages through before
-      again-ended j e {v} {c} {o} m f last ag gs ts us p d ea oa eb ob =
-          let shown = f (map again ag) (map again gs) (ts ++ us) [] [] (pairs-of ag gs p) (gathered ts us ea oa eb ob) (planned-of j e) in
-          let same = group-step [] (map again ag) (map again gs) (ts ++ us) (omega (arith, size-is (ts ++ us), gathered ts us ea oa eb ob .trees-is .ends, joined-short ts us ea eb)) in
+      again-ended j k3 {v} {c} {o} m f last ag gs ts us p _ ea oa eb ob =
+          let shown = f (map again ag) (map again gs) (ts ++ us) [] [] (pairs-of ag gs p) (both-allowed ts us oa ob) (collects ts us ea eb) (planned-of j k3) in
+          let same = group-step [] (map again ag) (map again gs) (ts ++ us) (omega (arith, size-is (ts ++ us), joined-short ts us ea eb)) in
           subst (EndedIs v o) (sym same) (last v _ (omega (arith, h .size)) shown)
 
 -- ---- there is room for the pairs

@@ -4,13 +4,15 @@ use crate::join::join;
 use areas::area::Out;
 use areas::span::Span;
 use queries::stage::GroupAt;
+use stream::map::Map;
 use stretches::ended::Ended;
-use stretches::group_stretch;
 use stretches::later::last;
+use stretches::later::next_stretch;
 use stretches::next::StretchAt;
 use trays::again::write_again;
 
-/// The regrouping of a tray group over the join of two arrays, in a work area of 65,536 bytes. Its pairs take at most
+/// The regrouping of a tray group over the join of two arrays, in a work area of 65,536 bytes: they are joined where a
+/// collected array stands. Its pairs take at most
 /// 16 bytes each, and are 12 at most; no stage stands behind them, and no joined array is asked.
 pub fn joined_group<'a>(
     query: &'a [u8],
@@ -22,8 +24,9 @@ pub fn joined_group<'a>(
     requires { ⌜ RegroupReady (now query) group (now first) (now second) (now work) ⌝ }
     ensures { λ r. ⌜ Regroups (now (query .entry)) group (now (first .entry)) (now (second .entry)) (now (work .exit)) r ⌝ }
 {
-    let joined = join(work, first, second);
-    let Out::At(len) = joined else {
+    let from = work.len() - Map::END;
+    let joined = join(work, from, first, second);
+    let Out::At(to) = joined else {
         return Ended::Long;
     };
     let mut pairs = [0u8; 192];
@@ -33,5 +36,5 @@ pub fn joined_group<'a>(
         group: again,
         next: Span { from: end, to: end },
     };
-    last(group_stretch::regroup(work, len, &pairs, at, b"\x01\x00\x00"))
+    last(next_stretch(work, to - from, &pairs, at, b"\x01\x00\x00"))
 }

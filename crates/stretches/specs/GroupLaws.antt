@@ -5,7 +5,7 @@ use mathlib.Core.Bool.{Bool, true, false, cond, _&&_}
 use mathlib.Core.Option.{none, some, Option·map}
 use Prim.Native.Nat.{ℕ, _+_, _-_, _*_, _≤_}
 use native.Mathlib.Omega.{arith}
-use lib.ListN.{length, take}
+use lib.ListN.{length}
 use Rattle.areas.specs.declared.area.Out.{Out}
 use Rattle.areas.specs.declared.area.Out.the-variants.{At, TooLarge}
 use Rattle.areas.specs.declared.span.Span.{Span}
@@ -36,13 +36,13 @@ use Rattle.build.specs.Made.{Made}
 use Rattle.group.specs.Class.{ClassReady, MakesClass}
 use Rattle.stream.specs.declared.collector.Collector.{Collector}
 use Rattle.stream.specs.declared.collector.Collector.the-variants.{Len, Large}
-use Rattle.stream.specs.Map.{treesMax, frontPart, building}
+use Rattle.stream.specs.Map.{frontPart, building}
 use Rattle.stream.specs.Collector.{isLarge, Open, Feeds}
 use Rattle.stream.specs.CollectorLaws.{feeds-beside, feeds-halt, feeds-none, feeds-large, feeds-open, feeds-lent}
 use Rattle.stream.specs.Tails.{tail, lent}
 use Rattle.stream.specs.TailLaws.{tail-is, tail-length, lent-front, ends-beyond}
 use Rattle.stream.specs.Feed.{Planned, Front, FeedReady, FeedPost}
-use Rattle.arrange.specs.Arrange.{numbered, arranged, Arranged}
+use Rattle.arrange.specs.Arrange.{arranged}
 use Rattle.stretches.specs.declared.group_stretch.Reached.{Reached}
 use Rattle.stretches.specs.declared.next.StretchAt.{StretchAt}
 use Rattle.stretches.specs.Stretch.{GroupPlan, GroupReady, GroupPost, through}

@@ -8,6 +8,9 @@ use Rattle.regrouping.proofs.join.join.Reads as reads
 use Rattle.regrouping.proofs.join.join.Lts as lts
 use Rattle.areas.proofs.area.copy_in.Reads as copy-in-reads
 
+add-stop : tie.Need-add-stop
+add-stop c = omega (arith, c .before .before .before .pre)
+
 sub-copy-in : tie.Need-sub-copy-in
 sub-copy-in c = search needs
 
@@ -18,7 +21,7 @@ part-copy-in-end : tie.Need-part-copy-in-end
 part-copy-in-end c = search needs
 
 copy-in-requires : tie.Need-copy-in-requires
-copy-in-requires c κs = search needs
+copy-in-requires c κs = (omega arith, c .before .before .before .before .before .pre .2)
 
 enum-known-one : tie.Need-enum-known-one
 enum-known-one c = search needs
@@ -65,6 +68,7 @@ returns-2 c =
     join-both (c .before .before .before .before .before .before .before .before .before .before .before .before .before .before .before .before .args .first .now)
     (c .before .before .before .before .before .before .before .before .before .before .copy-in .ensures)
     (c .before .before .before .before .before .before .before .before .before .before .before .before .before .before .before .before .args .second .now)
+    (omega (arith, c .before .before .before .before .before .before .before .before .before .before .before .before .before .before .before .before .pre .2))
     (c .before .before .before .before .before .before .one .given .1)
     (c .before .before .copy-in2 .ensures)
 
@@ -72,6 +76,7 @@ pub join-spec : {M : Type 1} → statement M
 join-spec =
     tie.close
     (tie.spec
+    add-stop
     sub-copy-in
     part-copy-in-start
     part-copy-in-end

@@ -1,9 +1,10 @@
 -- Made from Proof.ans by answers.py, which overwrites this file: edit Proof.ans.
-use mathlib.Core.Path.{refl, sym, _∙_}
+use mathlib.Core.Path.{refl}
 use native.Mathlib.Omega.{arith}
 use Rattle.regrouping.specs.JoinedGroupLaws.{
   head-inside,
   joined-long,
+  joined-above,
   again-ready,
   again-ended,
   pairs-fit,
@@ -14,9 +15,12 @@ use Rattle.regrouping.proofs.joined_group.joined_group.Tie as tie
 use Rattle.regrouping.proofs.joined_group.joined_group.Reads as reads
 use Rattle.regrouping.proofs.joined_group.joined_group.Lts as lts
 use Rattle.regrouping.proofs.join.join.Reads as join-reads
-use Rattle.stretches.proofs.group_stretch.regroup.Reads as regroup-reads
 use Rattle.stretches.proofs.later.last.Reads as last-reads
+use Rattle.stretches.proofs.later.next_stretch.Reads as next-stretch-reads
 use Rattle.trays.proofs.again.write_again.Reads as write-again-reads
+
+sub-from : tie.Need-sub-from
+sub-from c = omega (arith, c .before .before .before .before .pre .size)
 
 join-requires : tie.Need-join-requires
 join-requires c κs = (
@@ -25,6 +29,8 @@ join-requires c κs = (
   head-inside _
       (c .before .before .before .before .before .pre .second)
       (c .before .before .before .before .before .pre .second-is),
+  omega
+      (arith, c .before .before .before .before .before .pre .size),
   omega
       (arith, c .before .before .before .before .before .pre .size),
 )
@@ -48,18 +54,29 @@ write-again-requires : tie.Need-write-again-requires
 write-again-requires c κs =
     pairs-fit _ refl (c .before .before .before .before .before .before .before .before .before .before .before .before .pre)
 
-slice-aggregate-regroup : tie.Need-slice-aggregate-regroup
-slice-aggregate-regroup c = search needs
+sub-next-stretch : tie.Need-sub-next-stretch
+sub-next-stretch c =
+    omega (
+      arith,
+      joined-above
+          (c .before .before .before .before .before .before .before .before .before .join .ensures)
+          (c .before .before .before .before .before .joined .given .1)
+          (c .before .before .before .before .before .before .before .before .before .before .before .before .before .before .before .pre)
+          refl (c .before .before .before .before .before .before .before .before .before .join .kept .0),
+    )
 
-slice-aggregate-regroup-2 : tie.Need-slice-aggregate-regroup-2
-slice-aggregate-regroup-2 c = search needs
+slice-aggregate-next-stretch : tie.Need-slice-aggregate-next-stretch
+slice-aggregate-next-stretch c = search needs
 
-regroup-requires : tie.Need-regroup-requires
-regroup-requires c κs =
+slice-aggregate-next-stretch-2 : tie.Need-slice-aggregate-next-stretch-2
+slice-aggregate-next-stretch-2 c = search needs
+
+next-stretch-requires : tie.Need-next-stretch-requires
+next-stretch-requires c κs =
     again-ready (c .before .before .before .before .before .before .before .before .before .before .before .join .ensures)
     (c .before .before .before .before .before .before .before .joined .given .1)
     (c .before .before .before .before .before .before .before .before .before .before .before .before .before .before .before .before .before .pre)
-    (c .before .before .before .before .before .before .before .before .before .before .before .join .kept .0)
+    refl (c .before .before .before .before .before .before .before .before .before .before .before .join .kept .0)
     (c .before .before .before .before .write-again .ensures) _ refl
 
 last-requires : tie.Need-last-requires
@@ -73,15 +90,16 @@ returns-2 c =
     again-ended (c .before .before .before .before .before .before .before .before .before .before .before .before .before .before .before .join .ensures)
     (c .before .before .before .before .before .before .before .before .before .before .before .joined .given .1)
     (c .before .before .before .before .before .before .before .before .before .before .before .before .before .before .before .before .before .before .before .before .before .pre)
-    (c .before .before .before .before .before .before .before .before .before .before .before .before .before .before .before .join .kept .0)
+    refl (c .before .before .before .before .before .before .before .before .before .before .before .before .before .before .before .join .kept .0)
     (c .before .before .before .before .before .before .before .before .write-again .ensures) _
-    refl (c .before .before .before .regroup .kept .0)
-    (c .before .before .before .regroup .ensures) (c .last .ensures)
+    refl (c .before .before .before .next-stretch .kept .0)
+    (c .before .before .before .next-stretch .ensures) (c .last .ensures)
 
 pub joined-group-spec : {M : Type 1} → statement M
 joined-group-spec =
     tie.close
     (tie.spec
+    sub-from
     join-requires
     enum-known-joined
     enum-told
@@ -89,9 +107,10 @@ joined-group-spec =
     returns
     slice-aggregate-write-again
     write-again-requires
-    slice-aggregate-regroup
-    slice-aggregate-regroup-2
-    regroup-requires
+    sub-next-stretch
+    slice-aggregate-next-stretch
+    slice-aggregate-next-stretch-2
+    next-stretch-requires
     last-requires
     same-length-2
     returns-2)
