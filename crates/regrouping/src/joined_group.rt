@@ -12,8 +12,8 @@ use stretches::next::StretchAt;
 use trays::again::write_again;
 
 /// The regrouping of a tray group over the join of two arrays, in a work area of 65,536 bytes: they are joined where a
-/// collected array stands. Its pairs take at most
-/// 16 bytes each, and are 12 at most; no stage stands behind them, and no joined array is asked.
+/// collected array stands. Its pairs take at most 16 bytes each, and are 12 at most; no stage stands behind them, and no
+/// joined array is asked.
 pub fn joined_group<'a>(
     query: &'a [u8],
     group: GroupAt,
