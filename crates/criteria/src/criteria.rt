@@ -15,21 +15,25 @@ pub fn holds<'a>(query: &'a [u8], criterion: Span, area: &'a [u8], tree: Span, l
     requires { ⌜ Evaluable (now query) criterion (now area) tree left ⌝ }
     ensures { λ r. ⌜ Meets (now (query .entry)) criterion (now (area .entry)) tree left r ⌝ }
 {
-    // the calls get a new span, so that only their branches pay for the copy that a call needs
+    // a parameter handed on whole is copied 16 bytes at once, for which the processor waits: so `asked` and `at`
+    let asked = Span {
+        from: criterion.from,
+        to: criterion.to,
+    };
     let at = Span {
         from: tree.from,
         to: tree.to,
     };
-    let read = criterion_at(query, criterion);
+    let read = criterion_at(query, asked);
     match read {
         CriterionAt::Always => {
             return true;
         }
         CriterionAt::Exists(path) => {
-            return present(query, path, 0, area, tree);
+            return present(query, path, 0, area, at);
         }
         CriterionAt::Equal(path, literal) => {
-            return path_equals_literal(query, path, literal, area, tree);
+            return path_equals_literal(query, path, literal, area, at);
         }
         CriterionAt::Same(one, two) => {
             return same_paths(query, one, area, at, two, area, at);

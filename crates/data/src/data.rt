@@ -225,8 +225,12 @@ pub fn write_data(
     requires { ⌜ DataReady (NestedD left) dataBytes (now query) datum (now work) tree room ⌝ }
     ensures { λ r. ⌜ Gives (NestedD left) dataBytes meant.value (now (query .entry)) datum (now (work .entry)) (now (work .exit)) tree room r ⌝ }
 {
-    // a call gets new spans, so that only its branch pays for the copies that the call needs
-    let x = data_at(query, datum);
+    // a parameter handed on whole is copied 16 bytes at once, for which the processor waits: so `asked`, `at`, `into`
+    let asked = Span {
+        from: datum.from,
+        to: datum.to,
+    };
+    let x = data_at(query, asked);
     match x {
         DataAt::Literal(trees) => write_literal(work, query, trees, room),
         DataAt::Path(path) => write_path(work, query, path, tree, room),
