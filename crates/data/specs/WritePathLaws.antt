@@ -13,7 +13,7 @@ use borrow.Author.Tests.{eq-eqb, ne-eqb}
 use Rattle.areas.specs.declared.area.Out.{Out}
 use Rattle.format.specs.declared.labels.Found.{Found}
 use Rattle.format.specs.declared.labels.Found.the-variants.{Part, Missing}
-use Rattle.spec_trees.specs.Tree.{void, boolean, integer, text, Tree, node, Labels, list, root}
+use Rattle.spec_trees.specs.Tree.{void, boolean, integer, text, Tree, node, Trees, Labels, list, root}
 use Rattle.spec_trees.specs.Bytes.{fieldBytes, bytes, big, pattern, rootF, treeF, treeBytes}
 use Rattle.spec_trees.specs.NumberLaws.{length-big}
 use Rattle.areas.specs.Area.{Is, Fitted, Wrote, fieldEnd, span}
@@ -24,7 +24,7 @@ use Rattle.spec_trees.specs.SizeLaws.{trees-list}
 use Rattle.spec_trees.specs.OptionLaws.{cond-cases}
 use Rattle.spec_trees.specs.Within.{OkR}
 use Rattle.spec_trees.specs.ListLaws.{All-left, All-right}
-use Rattle.format.specs.Stand.{treesBytes, labelsBytes, Holds}
+use Rattle.format.specs.Stand.{treesBytes, labelsBytes, Holds, FoundIs}
 use Rattle.format.specs.StandLaws.{tree-parts}
 use Rattle.queries.specs.Steps.{stepCount}
 use Rattle.queries.specs.StepLaws.{steps-are}
@@ -238,6 +238,13 @@ pub parts-reduced : (n : ℕ) (x : Given) → (n ≡ 0 → ⊥) → parts n x �
 parts-reduced n none z = refl
 parts-reduced n (some a) z = ap some (map-reduced n a z)
 
+-- an array that was copied from where it stands
+array-copied : {w v : List ℕ} {a b d stop n : ℕ} {r : Out} {x : Given} (ts : Trees) → n ≡ 0 → x ≡ some (list ts) → Is w a b (treesBytes ts) → Wrote w v d stop (take (b - a) (drop a w)) r
+    → WroteParts n false w v (span d stop) (valueOf r) x
+unfolding join
+array-copied {w} {v} {a} {b} {d} {stop} {n} {r} {x} ts y z h k o =
+    value-array (list ts) r (parts-zero n x y ∙ z) (subst (λ l. Wrote w v d stop l r) (ap treesBytes (sym (trees-list ts))) (is-copied h k))
+
 module _ (q : List ℕ) (p : Span) (i : ℕ) (w : List ℕ) (a b d stop n : ℕ) where
   pub walk-end : {v : List ℕ} {r : Out} → i ≡ stepCount q p → WroteLeaf w v (span a b) (span d stop) n r → Tells q p i w (span a b) (WroteParts n false w v (span d stop) (valueOf r))
   unfolding given join
@@ -266,16 +273,30 @@ module _ (q : List ℕ) (p : Span) (i : ℕ) (w : List ℕ) (a b d stop n : ℕ)
   -- the array in one piece
   pub over-piece : {v : List ℕ} {r : Out} → n ≡ 0 → i ≡ stepCount q p → Wrote w v d stop (take (b - a) (drop a w)) r
       → TellsOver q p i w (span a b) (WroteParts n false w v (span d stop) (valueOf r))
-  unfolding join
-  over-piece {v} {r} y z k path ts g h o =
+  over-piece {v} {r} y z k path ts g h =
       let m : drop i path ≡ [] = drop-of-length-le path {i = i} (omega (arith, steps-are path g)) in
       let s : over (apply (drop i path)) (list ts) ≡ some (list ts) = ap (λ l. over (apply l) (list ts)) m ∙ over-itself (list ts) in
-      value-array (list ts) r (parts-zero n _ y ∙ s) (subst (λ l. Wrote w v d stop l r) (ap treesBytes (sym (trees-list ts))) (is-copied h k))
+      array-copied ts y s h k
 
   pub walked-piece : {v : List ℕ} {r : Out} {o : Value} → o ≡ valueOf r → n ≡ 0 → i ≡ stepCount q p → d ≤ length w → d ≤ stop → Wrote w v d stop (take (b - a) (drop a w)) r
       → Kept w v (span d stop) o × TellsOver q p i w (span a b) (WroteParts n false w v (span d stop) o)
   walked-piece {v} {r} {o} x y z l s k =
       (subst (Kept w v (span d stop)) (sym x) (wrote-kept r l s k), subst (λ c. TellsOver q p i w (span a b) (WroteParts n false w v (span d stop) c)) (sym x) (over-piece y z k))
+
+  -- what was found in one piece, or is missing
+  module _ {f : Found} (u : Tells q p i w (span a b) (λ x. FoundIs w (span a b) x f)) where
+    pub found-missing : f ≡ Missing → Tells q p i w (span a b) (WroteParts n false w w (span d stop) Value.Absent)
+    unfolding join
+    found-missing z path t g h o = value-absent w d stop (ap (parts n) (u path t g h .missing z))
+
+    found-copied : {x y : ℕ} {v : List ℕ} {r : Out} → f ≡ Part (span x y) → n ≡ 0 → Wrote w v d stop (take (y - x) (drop x w)) r
+        → Tells q p i w (span a b) (WroteParts n false w v (span d stop) (valueOf r))
+    found-copied {x} {y} z c k path t g h = let l = u path t g h .part (span x y) z in array-copied (l .array) c (l .same) (l .array-is) k
+
+    pub walked-found : {x y : ℕ} {v : List ℕ} {r : Out} {o : Value} → o ≡ valueOf r → f ≡ Part (span x y) → n ≡ 0 → d ≤ length w → d ≤ stop → Wrote w v d stop (take (y - x) (drop x w)) r
+        → Kept w v (span d stop) o × Tells q p i w (span a b) (WroteParts n false w v (span d stop) o)
+    walked-found {v = v} {r = r} m z c l s k =
+        (subst (Kept w v (span d stop)) (sym m) (wrote-kept r l s k), subst (λ o. Tells q p i w (span a b) (WroteParts n false w v (span d stop) o)) (sym m) (found-copied z c k))
 
   pub over-empty : a ≡ b → d ≤ stop → TellsOver q p i w (span a b) (WroteParts n false w w (span d stop) (Value.At d))
   unfolding join

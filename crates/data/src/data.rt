@@ -33,6 +33,7 @@ use areas::area::field_end;
 use areas::span::Span;
 use criteria::criteria::holds;
 use format::labels::Found;
+use paths::path::piece;
 use paths::path::under;
 use queries::data::DataAt;
 use queries::data::data_at;
@@ -149,12 +150,51 @@ pub fn write_path(work: &mut [u8], query: &[u8], path: Span, tree: Span, room: S
     write_walk(work, query, path, 0, 0, tree, room)
 }
 
+/// What the path gives of the tree. For a path of at most one label, as most aggregates have, it is copied in one piece.
+fn write_part(work: &mut [u8], query: &[u8], path: Span, tree: Span, room: Span) -> Value
+    requires { ⌜ WalkReady treeBytes (now query) path 0 (now work) tree room 0 ⌝ }
+    ensures { λ r. ⌜ Kept (now (work .entry)) (now (work .exit)) room r × Tells (now (query .entry)) path 0 (now (work .entry)) tree (WroteParts 0 false (now (work .entry)) (now (work .exit)) room r) ⌝ }
+{
+    if steps(query, path) <= 1 {
+        let found = piece(query, path, work, tree);
+        let Found::Part(part) = found else {
+            return Value::Absent;
+        };
+        return value_of(copy(work, part, room));
+    }
+    write_walk(work, query, path, 0, 0, tree, room)
+}
+
 /// What the path gives over an array, by its trees.
 pub fn write_path_over(work: &mut [u8], query: &[u8], path: Span, trees: Span, room: Span) -> Value
     requires { ⌜ WalkReady treesBytes (now query) path 0 (now work) trees room 0 ⌝ }
     ensures { λ r. ⌜ TellsOver (now (query .entry)) path 0 (now (work .entry)) trees (λ x. WroteFound (now (work .entry)) (now (work .exit)) (room .from) (room .to) x r) ⌝ }
 {
-    write_over(work, query, path, 0, 0, trees, room)
+    let end = trees.to;
+    let stop = room.to;
+    let mut from = trees.from;
+    let mut to = room.from;
+    if from == end {
+        return Value::At(to);
+    }
+    let mut any = false;
+    while from != end {
+        let m = field_end(work, from);
+        let r = write_part(
+            work,
+            query,
+            path,
+            Span { from, to: m },
+            Span { from: to, to: stop },
+        );
+        if is_large(r) {
+            return Value::TooLarge;
+        }
+        to = end_of(r, to);
+        any = found_of(r, any);
+        from = m;
+    }
+    answer_of(any, to)
 }
 
 /// What the path gives of the tree, with the root of each tree divided.
