@@ -21,7 +21,8 @@ use Rattle.spec_queries.specs.Query.{Pair}
 use Rattle.paths.specs.ComparedLaws.{is-none}
 use Rattle.stream.specs.Map.{treesMax}
 use Rattle.arrange.specs.Links.{spots, passing, offset, firstOf}
-use Rattle.arrange.specs.Index.{base, slots, headAt, standing, Index, Entering, Collected}
+use Rattle.spec_stages.specs.Classes.{scan}
+use Rattle.arrange.specs.Index.{base, slots, headAt, countAt, standing, Index, Entering, Collected}
 use Rattle.arrange.specs.Entering.{Enters, Cleared, EntersAll}
 use Rattle.arrange.specs.StandingLaws.{length-none}
 
@@ -42,18 +43,22 @@ module _ (w y : List ℕ) (l : length w ≡ workMin) (z : y ≡ replicate (lengt
       ∙ List·getD-append y (drop 5464 (drop 38228 w)) 0 i (omega (arith, zeros))
       ∙ ap (λ s. getD s i 0) z ∙ getD-replicate (length (take 5464 (drop 38228 w))) i 0 0 (omega (arith, length-take-le 5464 (drop 38228 w) (omega (arith, length-drop 38228 w))))
 
+  zero-two : (i : ℕ) → i + 1 < 5464 → twoAt whole (38228 + i) ≡ 0
+  zero-two i b = ap₂ (λ i j. i * 256 + j) (zero-byte i (omega arith)) (ap (λ j. getD whole j 0) (omega arith) ∙ zero-byte (i + 1) (omega arith))
+
   pub heads-cleared : Cleared w whole
   heads-cleared = record {
-    blank = λ h b. ap₂ (λ i j. i * 256 + j) (zero-byte (2 * h) (omega arith)) (ap (λ i. getD whole i 0) (omega arith) ∙ zero-byte (2 * h + 1) (omega arith));
+    blank = λ h b. zero-two (2 * h) (omega arith);
+    uncounted = λ m b. ap (twoAt whole) (omega arith) ∙ zero-two (4096 + 2 * m) (omega arith);
     beyond =
         ap (λ n. drop (n + 5464) whole) (sym front) ∙ drop-append-add (take 38228 w) (y ++ drop 5464 (drop 38228 w)) 5464
         ∙ drop-at y (drop 5464 (drop 38228 w)) 5464 zeros ∙ drop-drop 5464 38228 w;
   }
 
 -- ---- no tree is entered
-index-none : (w : List ℕ) (gs : List Pair) → ((h : ℕ) → h < slots → twoAt w (headAt h) ≡ 0) → Index w gs []
-unfolding spots firstOf passing filter offset
-index-none w gs b = record { links = record { nexts = tt; backs = tt; tops = b }; marks = tt }
+index-none : {w₀ w : List ℕ} (gs : List Pair) → Cleared w₀ w → Index w gs []
+unfolding spots firstOf passing filter offset scan
+index-none gs c = record { links = record { nexts = tt; backs = tt; tops = c .blank }; marks = tt; counts = c .uncounted }
 
 -- ---- some trees are entered, and some are left
 pub record EnteringAll (w₀ q : List ℕ) (keysAt : Span) (n : ℕ) (c : Collected w₀ q keysAt n) (w : List ℕ) (at : ℕ) : Type 0 where
@@ -84,14 +89,14 @@ collected-kept k l c = record {
 }
 
 module _ {w₀ q : List ℕ} {keysAt : Span} {n : ℕ} (c : Collected w₀ q keysAt n) where
-  pub all-begin : ((h : ℕ) → h < slots → twoAt w₀ (headAt h) ≡ 0) → EnteringAll w₀ q keysAt n c w₀ base
+  pub all-begin : {w : List ℕ} → Cleared w w₀ → EnteringAll w₀ q keysAt n c w₀ base
   all-begin b = record {
     seen = [];
     left = c .trees;
     both = refl;
     seen-is = no-trees (omega (arith, c .size));
     left-is = c .trees-is;
-    index = index-none w₀ (c .grouping) b;
+    index = index-none (c .grouping) b;
     size = c .size;
     beyond = refl;
   }

@@ -4,6 +4,7 @@ use mathlib.Core.List.{List, _∷_, [], _++_, reverse}
 use mathlib.Core.Logic.{_≢_, _⊎_}
 use Prim.Native.Nat.{ℕ, _+_, _≤_, _<_}
 use lib.ListN.{drop}
+use lib.Dec.{eqb}
 use Rattle.spec_trees.specs.Limits.{depthMax}
 use Rattle.spec_trees.specs.Tree.{Tree}
 use Rattle.spec_trees.specs.Bytes.{treeBytes}
@@ -13,10 +14,10 @@ use Rattle.areas.specs.declared.span.Span.{Span}
 use Rattle.areas.specs.Number.{twoAt}
 use Rattle.spec_queries.specs.Query.{Pair}
 use Rattle.queries.specs.Places.{pairsBytes}
-use Rattle.spec_stages.specs.Group.{alike}
+use Rattle.spec_stages.specs.Group.{key, alike, sum}
 use Rattle.stream.specs.Map.{treesMax}
 use Rattle.arrange.specs.Links.{Spot, down, passing, firstOf, Walk}
-use Rattle.arrange.specs.Index.{base, backAt, nextAt, slots, headAt, sizeOf, standing, slot, Index, Entering, Collected}
+use Rattle.arrange.specs.Index.{base, backAt, nextAt, slots, headAt, countAt, sizeOf, standing, slot, mark, Index, Entering, Collected}
 
 -- r is where the head of the tree's slot stands
 abbrev pub HeadIs : (q : List ℕ) (keysAt : Span) (w : List ℕ) (treeAt : Span) → ℕ → Type 0
@@ -50,12 +51,25 @@ pub record Searching (w : List ℕ) (gs : List Pair) (seen : List Tree) (t : Tre
   pub walk : Walk (Stood w) (down 6) (λ a. twoAt w (backAt a)) below at left
   pub rest : firstOf (λ u. alike gs u t) left ≡ lastLike gs seen t
 
+-- r is the mark of the tree, before which `like` is the last with its key
+abbrev pub MarkIs : (q : List ℕ) (keysAt : Span) (w : List ℕ) (treeAt : Span) (like : ℕ) → ℕ → Type 0
+MarkIs q keysAt w treeAt like r = (gs : List Pair) (t : Tree) → IsAt q keysAt (pairsBytes gs) → IsAt w treeAt (treeBytes t)
+    → r ≡ mark (sum (key gs t)) (eqb like 0)
+
 -- ---- what is stored
--- the link of y, if there is one, leads to x; numbers that do not overlap it stay
-pub record Linked (w v : List ℕ) (y x : ℕ) : Type 0 where
-  pub linked : y ≢ 0 → twoAt v (nextAt y) ≡ x
-  pub others : (b : ℕ) → (y ≢ 0 → (b + 2 ≤ nextAt y) ⊎ (nextAt y + 2 ≤ b)) → twoAt v b ≡ twoAt w b
+-- under the condition P the number n is stored at a; numbers that do not overlap it stay
+pub record StoredIf (P : Type 0) (w v : List ℕ) (a n : ℕ) : Type 0 where
+  pub set : P → twoAt v a ≡ n
+  pub others : (b : ℕ) → (P → (b + 2 ≤ a) ⊎ (a + 2 ≤ b)) → twoAt v b ≡ twoAt w b
   pub beyond : drop base v ≡ drop base w
+
+-- the link of y, if there is one, leads to x
+abbrev pub Linked : (w v : List ℕ) (y x : ℕ) → Type 0
+Linked w v y x = StoredIf (y ≢ 0) w v (nextAt y) x
+
+-- the classes of the subset m, if it is one, are one more
+abbrev pub Counted : (w v : List ℕ) (m : ℕ) → Type 0
+Counted w v m = StoredIf (m < 16) w v (countAt m) (twoAt w (countAt m) + 1)
 
 -- the tree has entered
 pub record Enters (w v q : List ℕ) (keysAt treeAt : Span) : Type 0 where
@@ -65,6 +79,7 @@ pub record Enters (w v q : List ℕ) (keysAt treeAt : Span) : Type 0 where
 -- ---- no tree is entered, and all are
 pub record Cleared (w v : List ℕ) : Type 0 where
   pub blank : (h : ℕ) → h < slots → twoAt v (headAt h) ≡ 0
+  pub uncounted : (m : ℕ) → m < 16 → twoAt v (countAt m) ≡ 0
   pub beyond : drop base v ≡ drop base w
 
 pub record EntersAll (w v q : List ℕ) (keysAt : Span) (n : ℕ) : Type 0 where

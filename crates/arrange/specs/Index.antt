@@ -3,7 +3,7 @@
 use mathlib.Core.Path.{_≡_}
 use mathlib.Core.List.{List, [], _∷_, _++_}
 use mathlib.Core.Bool.{Bool, cond}
-use Prim.Native.Nat.{ℕ, _+_, _-_, _*_, _%_, _≤_}
+use Prim.Native.Nat.{ℕ, _+_, _-_, _*_, _%_, _≤_, _<_}
 use lib.ListN.{length}
 use Rattle.spec_trees.specs.Limits.{depthMax, workMin}
 use Rattle.spec_trees.specs.Tree.{Tree}
@@ -15,7 +15,7 @@ use Rattle.areas.specs.Number.{twoAt}
 use Rattle.spec_queries.specs.Query.{Pair}
 use Rattle.queries.specs.Places.{pairsBytes, arrayTrees}
 use Rattle.spec_stages.specs.Group.{key, alike, sum}
-use Rattle.spec_stages.specs.Classes.{unlike}
+use Rattle.spec_stages.specs.Classes.{unlike, scan}
 use Rattle.group.specs.Keys.{FewPairs}
 use Rattle.group.specs.KeyHash.{keyHash}
 use Rattle.stream.specs.Map.{treesMax}
@@ -43,6 +43,10 @@ slots = 2048
 abbrev pub headAt : ℕ → ℕ
 headAt h = 38228 + 2 * h
 
+-- how many classes the subset m has
+abbrev pub countAt : ℕ → ℕ
+countAt m = 42324 + 2 * m
+
 -- ---- what they are
 abbrev pub sizeOf : Tree → ℕ
 sizeOf t = length (treeBytes t)
@@ -54,9 +58,9 @@ standing ts = spots sizeOf base ts
 abbrev pub slot : List Pair → Tree → ℕ
 slot gs t = keyHash (key gs t) % slots
 
--- the mark of a tree: its subset, and 16 more if it begins no class
+-- the mark of a tree: its subset if it begins a class, otherwise 16
 unfoldable pub mark : ℕ → Bool → ℕ
-mark m first = m + cond first 0 16
+mark m first = cond first m 16
 
 -- each tree's mark, behind those that were seen before it
 abbrev pub Marks : List Pair → (ℕ → ℕ) → List Tree → List (Spot Tree) → Type 0
@@ -66,6 +70,7 @@ Marks gs marks seen (s ∷ ss) = (marks (s .0) ≡ mark (sum (key gs (s .1))) (u
 pub record Index (w : List ℕ) (gs : List Pair) (ts : List Tree) : Type 0 where
   pub links : Indexed (alike gs) (slot gs) slots (λ a. twoAt w (nextAt a)) (λ a. twoAt w (backAt a)) (λ h. twoAt w (headAt h)) (standing ts)
   pub marks : Marks gs (λ a. twoAt w (markAt a)) [] (standing ts)
+  pub counts : (m : ℕ) → m < 16 → twoAt w (countAt m) ≡ length (scan gs m [] ts)
 
 -- ---- a tree enters, behind those that are entered
 pub record Entering (w q : List ℕ) (keysAt treeAt : Span) : Type 0 where

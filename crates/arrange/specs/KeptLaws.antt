@@ -12,7 +12,7 @@ use Rattle.spec_queries.specs.Query.{Pair}
 use Rattle.spec_stages.specs.Group.{alike}
 use Rattle.arrange.specs.Links.{Spot, spots, sameSlot}
 use Rattle.arrange.specs.LinksLaws.{links-kept}
-use Rattle.arrange.specs.Index.{base, backAt, nextAt, markAt, slots, headAt, sizeOf, standing, slot, Marks, Index}
+use Rattle.arrange.specs.Index.{base, backAt, nextAt, markAt, slots, headAt, countAt, sizeOf, standing, slot, Marks, Index}
 use Rattle.arrange.specs.Arrange.{indexAt}
 use Rattle.areas.specs.NumberLaws.{two-above}
 
@@ -43,4 +43,5 @@ module _ (w v : List ℕ) (k : drop indexAt v ≡ drop indexAt w) where
           tops = λ h l. two-above w v indexAt k (headAt h) (omega arith) ∙ i .links .tops h l;
         };
         marks = marks-kept gs [] (standing ts) above (i .marks);
+        counts = λ m l. two-above w v indexAt k (countAt m) (omega arith) ∙ i .counts m l;
       }

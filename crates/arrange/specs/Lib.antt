@@ -9,6 +9,7 @@ pub mod EnterLaws
 pub mod SpotsLaws
 pub mod IndexLaws
 pub mod StandingLaws
+pub mod CountLaws
 pub mod SearchLaws
 pub mod EnteringLaws
 pub mod KeptLaws

@@ -28,7 +28,7 @@ use Rattle.arrange.specs.declared.arrange.Filled.{Filled}
 use Rattle.arrange.specs.Links.{Spot, spots, end, elements, up, passing, Walk}
 use Rattle.arrange.specs.SpotsLaws.{spots-append, spots-elements}
 use Rattle.arrange.specs.IndexLaws.{class-walk, class-elements}
-use Rattle.arrange.specs.Index.{base, nextAt, markAt, sizeOf, standing, mark, Marks, Index}
+use Rattle.arrange.specs.Index.{base, nextAt, markAt, countAt, sizeOf, standing, mark, Marks, Index}
 use Rattle.arrange.specs.Entering.{Stood}
 use Rattle.arrange.specs.Arrange.{numbered, arranged, treesOf, indexAt, Room, Grows, Following, Follows, Subset, SubsetArranged}
 use Rattle.arrange.specs.StandingLaws.{six, length-cons, length-none, end-is, all-stood}
@@ -39,8 +39,8 @@ use Rattle.arrange.specs.EnteringLaws.{sum-small}
 -- ---- the mark tells whether a tree begins a class of the subset
 mark-begins : (m k : ℕ) (first : Bool) → m < 16 → k < 16 → eqb (mark m first) k ≡ (eqb m k && first)
 unfolding mark
-mark-begins m k true h l = ap (λ i. eqb i k) (omega arith) ∙ sym (and-true (eqb m k))
-mark-begins m k false h l = ne-eqb (m + 16) k (λ z. omega arith) ∙ sym (and-false (eqb m k))
+mark-begins m k true h l = sym (and-true (eqb m k))
+mark-begins m k false h l = ne-eqb 16 k (λ z. omega arith) ∙ sym (and-false (eqb m k))
 
 -- the mark of the tree behind ss
 marks-behind : (gs : List Pair) (marks : ℕ → ℕ) (seen : List Tree) (ss rs : List (Spot Tree)) → Marks gs marks seen (ss ++ rs) → Marks gs marks (seen ++ elements ss) rs
@@ -58,12 +58,16 @@ module _ (gs : List Pair) (m : ℕ) (seen : List Tree) (t : Tree) (ts : List Tre
   unfolding scan
   scan-no e = rw e refl
 
+none-left : (cs : List Class) → length cs ≡ 0 → cs ≡ []
+none-left [] z = refl
+none-left (c ∷ cs) z = absurd (omega arith)
+
 flat-cons : (c : Class) (cs : List Class) → flat (c ∷ cs) ≡ members c ++ flat cs
 unfolding flat gather
 flat-cons c cs = refl
 
--- ---- some trees were asked, and some are left
-pub record Scanning (w₀ : List ℕ) (n m : ℕ) (f₀ : Filled) (s : Subset w₀ n m f₀) (w : List ℕ) (f : Filled) (at : ℕ) : Type 0 where
+-- ---- some trees were asked, and some are left, in which k classes begin
+pub record Scanning (w₀ : List ℕ) (n m : ℕ) (f₀ : Filled) (s : Subset w₀ n m f₀) (w : List ℕ) (f : Filled) (at k : ℕ) : Type 0 where
   pub done : List Class
   pub grows : Grows w₀ w f₀ f (arranged done)
   pub seen : List Tree
@@ -73,11 +77,12 @@ pub record Scanning (w₀ : List ℕ) (n m : ℕ) (f₀ : Filled) (s : Subset w�
   pub at-is : at ≡ base + length (arrayTrees seen)
   pub left-is : Is w at (base + n) (arrayTrees left)
   pub room : f .to + length (arrayTrees (flat (scan (s .grouping) m seen left))) ≤ treesMax
+  pub count : k ≡ length (scan (s .grouping) m seen left)
 
 module _ {w₀ : List ℕ} {n m : ℕ} {f₀ : Filled} (s : Subset w₀ n m f₀) where
-  pub scanning-begin : Scanning w₀ n m f₀ s w₀ f₀ base
+  pub scanning-begin : {k : ℕ} → k ≡ twoAt w₀ (countAt m) → Scanning w₀ n m f₀ s w₀ f₀ base k
   unfolding arranged gather
-  scanning-begin = record {
+  scanning-begin z = record {
     done = [];
     grows = grows-none w₀ f₀;
     seen = [];
@@ -87,16 +92,21 @@ module _ {w₀ : List ℕ} {n m : ℕ} {f₀ : Filled} (s : Subset w₀ n m f₀
     at-is = omega (arith, length-none);
     left-is = s .trees-is;
     room = s .room .fits;
+    count = z ∙ s .index .counts m (s .below);
   }
 
-  module _ {w : List ℕ} {f : Filled} {at : ℕ} (c : Scanning w₀ n m f₀ s w f at) where
-    pub scanning-end : at ≡ base + n → Grows w₀ w f₀ f (arranged (scan (s .grouping) m [] (s .trees)))
-    unfolding scan
+  module _ {w : List ℕ} {f : Filled} {at k : ℕ} (c : Scanning w₀ n m f₀ s w f at k) where
+    pub scanning-end : k ≡ 0 → Grows w₀ w f₀ f (arranged (scan (s .grouping) m [] (s .trees)))
     scanning-end z =
         subst (λ l. Grows w₀ w f₀ f (arranged l))
-        (sym (append-nil (c .done)) ∙ ap (λ l. c .done ++ scan (s .grouping) m (c .seen) l) (sym (array-none (c .left) z (c .left-is))) ∙ c .whole) (c .grows)
+        (sym (append-nil (c .done)) ∙ ap (λ l. c .done ++ l) (sym (none-left _ (sym (c .count) ∙ z))) ∙ c .whole) (c .grows)
 
-    module _ (ne : at ≡ base + n → ⊥) {e : ℕ} (z : e ≡ fieldEnd w at) where
+    module _ (more : k ≡ 0 → ⊥) {e : ℕ} (z : e ≡ fieldEnd w at) where
+      -- a class begins, so a tree is left
+      ne : at ≡ base + n → ⊥
+      unfolding scan
+      ne y = more (c .count ∙ ap (λ l. length (scan (s .grouping) m (c .seen) l)) (array-none (c .left) y (c .left-is)))
+
       abbrev gs : List Pair
       gs = s .grouping
 
@@ -133,7 +143,7 @@ module _ {w₀ : List ℕ} {n m : ℕ} {f₀ : Filled} (s : Subset w₀ n m f₀
       both-next = append-assoc (c .seen) (parts .first ∷ []) (parts .rest) ∙ sym trees-are
 
       -- it begins no class of the subset
-      pub scanning-passed : (twoAt w (markAt at) ≡ m → ⊥) → Scanning w₀ n m f₀ s w f e
+      pub scanning-passed : (twoAt w (markAt at) ≡ m → ⊥) → Scanning w₀ n m f₀ s w f e k
       scanning-passed other =
           let same = ap (scan gs m (c .seen)) (parts .same) ∙ scan-no gs m (c .seen) (parts .first) (parts .rest) (sym begins-is ∙ ne-eqb _ m other) in
           record {
@@ -146,6 +156,7 @@ module _ {w₀ : List ℕ} {n m : ℕ} {f₀ : Filled} (s : Subset w₀ n m f₀
             at-is = at-next;
             left-is = parts .rest-is;
             room = subst (λ l. f .to + length (arrayTrees (flat l)) ≤ treesMax) same (c .room);
+            count = c .count ∙ ap length same;
           }
 
       module _ (it : twoAt w (markAt at) ≡ m) where
@@ -187,19 +198,20 @@ module _ {w₀ : List ℕ} {n m : ℕ} {f₀ : Filled} (s : Subset w₀ n m f₀
           };
         }
 
-        pub scanning-next : {v : List ℕ} {r : Filled} → Follows w v at f r → Scanning w₀ n m f₀ s v r e
+        pub scanning-next : {v : List ℕ} {r : Filled} → Follows w v at f r → Scanning w₀ n m f₀ s v r e (k - 1)
         unfolding scanning-class
         scanning-next {v} {r} p =
-            let k = subst (λ l. Grows w v f r (numbered 1 l)) its-trees (p scanning-class) in
+            let g = subst (λ l. Grows w v f r (numbered 1 l)) its-trees (p scanning-class) in
             let i = scanning-places in
             record {
               done = c .done ++ (class ∷ []);
-              grows = subst (Grows w₀ v f₀ r) (sym (arranged-behind (c .done) class)) (grows-then (c .grows) k);
+              grows = subst (Grows w₀ v f₀ r) (sym (arranged-behind (c .done) class)) (grows-then (c .grows) g);
               seen = c .seen ++ (parts .first ∷ []);
               left = parts .rest;
               both = both-next;
               whole = append-assoc (c .done) (class ∷ []) (scan gs m (c .seen ++ (parts .first ∷ [])) (parts .rest)) ∙ ap (λ l. c .done ++ l) (sym same) ∙ c .whole;
               at-is = at-next;
-              left-is = is-beyond indexAt (parts .rest-is) (k .kept) (k .same) (omega arith);
-              room = omega (arith, room-both, k .to-is, ap (λ l. length (arrayTrees l)) (numbered-trees 1 (members class)));
+              left-is = is-beyond indexAt (parts .rest-is) (g .kept) (g .same) (omega arith);
+              room = omega (arith, room-both, g .to-is, ap (λ l. length (arrayTrees l)) (numbered-trees 1 (members class)));
+              count = omega (arith, c .count, ap length same);
             }

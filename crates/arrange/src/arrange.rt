@@ -53,18 +53,20 @@ fn arrange_class(work: &mut [u8], first: usize, filled: Filled) -> Filled
     so_far
 }
 
-/// Puts the classes of the subset there, of the collected trees, which take `len` bytes.
+/// Puts the classes of the subset there, of the collected trees, which take `len` bytes. How many there are is known,
+/// so that no tree behind the last first one is looked at, and none at all for a subset that no tree has.
 fn arrange_subset(work: &mut [u8], len: usize, subset: usize, filled: Filled) -> Filled
     requires { ⌜ Subset (now work) len subset filled ⌝ }
     ensures { λ r. ⌜ SubsetArranged (now (work .entry)) (now (work .exit)) len subset filled r ⌝ }
 {
-    let end = Index::TREES + len;
     let mut so_far = filled;
+    let mut left = two_at(work, Index::COUNTS + 2 * subset);
     let mut at = Index::TREES;
-    while at != end {
+    while left != 0 {
         let m = field_end(work, at);
         if two_at(work, at - Index::MARK) == subset {
             so_far = arrange_class(work, at, so_far);
+            left -= 1;
         }
         at = m;
     }

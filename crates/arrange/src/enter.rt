@@ -1,18 +1,20 @@
 //! The trees of the collected array enter an index, one after another: for each tree the last before it with the same
 //! slot, which the search for a tree with its key follows back; the next behind it with the same key; and a mark, its
-//! subset of the grouping pairs, and whether it begins a class. A slot is a hash of the key: what it gets wrong costs
-//! time, for which keys are equal is decided by their bytes. Of `<'a>`: see crate `paths`'s `equality`.
+//! subset of the grouping pairs if it begins a class. The classes of each subset are counted. A slot is a hash of the
+//! key: what it gets wrong costs time, for which keys are equal is decided by their bytes. Of `<'a>`: see crate
+//! `paths`'s `equality`.
 ghost use mathlib.Core.Path.{_≡_};
 ghost use mathlib.Core.Logic.{_≢_};
 ghost use Prim.Native.Nat.{_+_, _≤_, _<_};
-ghost use lib.Dec.{eqb};
 ghost use lib.ListN.{length};
 ghost use Rattle.spec_trees.specs.Limits.{workMin};
 ghost use Rattle.spec_trees.specs.Bytes.{treeBytes};
-ghost use Rattle.queries.specs.Places.{pairsBytes, HoldsAt};
+ghost use Rattle.areas.specs.Number.{twoAt};
+ghost use Rattle.queries.specs.Places.{pairsBytes, HoldsAt, OkAt};
+ghost use Rattle.group.specs.Keys.{FewPairs};
 ghost use Rattle.stream.specs.Map.{treesMax};
-ghost use Rattle.arrange.specs.Index.{base, mark, Entering, Collected};
-ghost use Rattle.arrange.specs.Entering.{HeadIs, Search, LastIs, Linked, Enters, Cleared, EntersAll};
+ghost use Rattle.arrange.specs.Index.{base, countAt, Entering, Collected};
+ghost use Rattle.arrange.specs.Entering.{HeadIs, Search, LastIs, MarkIs, Linked, Counted, Enters, Cleared, EntersAll};
 use crate::index::Index;
 use areas::area::clear;
 use areas::area::field_end;
@@ -50,15 +52,15 @@ fn last_like<'a>(work: &'a [u8], query: &'a [u8], keys: Span, tree: Span, last: 
     0
 }
 
-/// The mark of a tree of the subset: 16 more, which no subset has, if a tree like it stands before it.
-fn mark_of(subset: usize, like: usize) -> usize
-    requires { ⌜ subset < 16 ⌝ }
-    ensures { λ r. ⌜ (r < 32) × (r ≡ mark subset (eqb like 0)) ⌝ }
+/// The mark of a tree: its subset if it begins a class, otherwise 16, which no subset is.
+fn mark_of(query: &[u8], keys: Span, work: &[u8], tree: Span, like: usize) -> usize
+    requires { ⌜ OkAt FewPairs pairsBytes (now query) keys × HoldsAt treeBytes (now work) tree ⌝ }
+    ensures { λ r. ⌜ (r ≤ 16) × MarkIs (now (query .entry)) keys (now (work .entry)) tree like r ⌝ }
 {
     if like == 0 {
-        return subset;
+        return subset(query, keys, work, tree);
     }
-    subset + 16
+    16
 }
 
 /// The tree at `like`, unless that is 0, gets the tree at `at` as the next with its key.
@@ -71,6 +73,17 @@ fn link(work: &mut [u8], like: usize, at: usize)
     }
 }
 
+/// One class more of the subset, if the mark is one.
+fn count(work: &mut [u8], mark: usize)
+    requires { ⌜ (length (now work) ≡ workMin) × (mark < 16 → twoAt (now work) (countAt mark) < treesMax) ⌝ }
+    ensures { λ _. ⌜ Counted (now (work .entry)) (now (work .exit)) mark ⌝ }
+{
+    if mark < 16 {
+        let at = Index::COUNTS + 2 * mark;
+        put_two(work, at, two_at(work, at) + 1);
+    }
+}
+
 /// Enters the tree, behind those that are entered.
 fn enter(work: &mut [u8], query: &[u8], keys: Span, tree: Span)
     requires { ⌜ Entering (now work) (now query) keys tree ⌝ }
@@ -80,15 +93,16 @@ fn enter(work: &mut [u8], query: &[u8], keys: Span, tree: Span)
     let head = head_of(query, keys, work, tree);
     let last = two_at(work, head);
     let like = last_like(work, query, keys, tree, last);
-    let mark = mark_of(subset(query, keys, work, tree), like);
+    let mark = mark_of(query, keys, work, tree, like);
     put_two(work, at - Index::BACK, last);
     put_two(work, at - Index::NEXT, 0);
     put_two(work, at - Index::MARK, mark);
     put_two(work, head, at);
     link(work, like, at);
+    count(work, mark);
 }
 
-/// No tree is entered yet.
+/// No tree is entered yet, and no class counted.
 fn clear_heads(work: &mut [u8])
     requires { ⌜ length (now work) ≡ workMin ⌝ }
     ensures { λ _. ⌜ Cleared (now (work .entry)) (now (work .exit)) ⌝ }

@@ -14,6 +14,9 @@ impl Index {
     /// How many slots there are.
     pub const SLOTS: usize = 2048;
 
+    /// How many classes each subset of the grouping pairs has.
+    pub const COUNTS: usize = 42324;
+
     /// The collected trees.
     pub const TREES: usize = 43692;
 

@@ -1,8 +1,9 @@
 -- Made from Proof.ans by answers.py, which overwrites this file: edit Proof.ans.
 use native.Mathlib.Omega.{arith}
+use borrow.Author.Needs.{needs}
 use lib.ListN.{length}
 use mathlib.Core.Path.{_≡_, refl, sym, _∙_}
-use Prim.Native.Nat.{_-_}
+use Prim.Native.Nat.{_+_, _-_}
 use Rattle.arrange.specs.Arrange.{Subset}
 use Rattle.arrange.specs.SubsetLaws as law
 use Rattle.arrange.proofs.arrange.arrange_subset.Statement.{statement}
@@ -14,25 +15,33 @@ use Rattle.areas.proofs.number.two_at.Reads as two-at-reads
 use Rattle.arrange.proofs.arrange.arrange_class.Reads as arrange-class-reads
 
 abbrev Inv-loop : tie.InvT-loop
-Inv-loop work₀ len subset end so-far₀ at₀ work so-far at =
+Inv-loop work₀ len subset so-far₀ left₀ at₀ work so-far left at =
     (length work ≡ length work₀) ×
-    ((s : Subset work₀ len subset so-far₀) → law.Scanning work₀ len subset so-far₀ s work so-far at)
+    ((s : Subset work₀ len subset so-far₀) → law.Scanning work₀ len subset so-far₀ s work so-far at
+    left)
 
 abbrev μ-loop : tie.MeasureT-loop
-μ-loop work₀ len subset end so-far₀ at₀ work so-far at = end - at
+μ-loop work₀ len subset so-far₀ left₀ at₀ work so-far left at = 43692 + len - at
 
-add-end : tie.Need-add-end Inv-loop μ-loop
-add-end c = omega (arith, c .before .pre .short)
+mul-two-at : tie.Need-mul-two-at Inv-loop μ-loop
+mul-two-at c = search needs
+
+add-two-at : tie.Need-add-two-at Inv-loop μ-loop
+add-two-at c = search needs
+
+two-at-requires : tie.Need-two-at-requires Inv-loop μ-loop
+two-at-requires c κs =
+    omega (arith, c .before .before .pre .room .size, c .before .before .pre .below)
 
 loop-holds : tie.Need-loop-holds Inv-loop μ-loop
-loop-holds c = (refl, λ s. law.scanning-begin s)
+loop-holds c = (refl, λ s. law.scanning-begin s (c .two-at .ensures .0))
 
 field-end-requires : tie.Need-field-end-requires Inv-loop μ-loop
 field-end-requires c κs =
     omega (
       arith,
-      law.scanning-places (c .before .before .before .before .pre)
-          (c .before .before .loop .inv .1 (c .before .before .before .before .pre))
+      law.scanning-places (c .before .before .before .before .before .before .pre)
+          (c .before .before .loop .inv .1 (c .before .before .before .before .before .before .pre))
           (c .before .loop-test .taken) refl,
     )
 
@@ -40,39 +49,44 @@ sub-two-at : tie.Need-sub-two-at Inv-loop μ-loop
 sub-two-at c =
     omega (
       arith,
-      law.scanning-places (c .before .before .before .before .before .before .pre)
+      law.scanning-places
+          (c .before .before .before .before .before .before .before .before .pre)
           (c .before .before .before .before .loop .inv .1
-          (c .before .before .before .before .before .before .pre))
+          (c .before .before .before .before .before .before .before .before .pre))
           (c .before .before .before .loop-test .taken) (c .before .field-end .ensures),
     )
 
-two-at-requires : tie.Need-two-at-requires Inv-loop μ-loop
-two-at-requires c κs =
+two-at-requires-2 : tie.Need-two-at-requires-2 Inv-loop μ-loop
+two-at-requires-2 c κs =
     omega (
       arith,
-      law.scanning-places (c .before .before .before .before .before .before .pre)
+      law.scanning-places
+          (c .before .before .before .before .before .before .before .before .pre)
           (c .before .before .before .before .loop .inv .1
-          (c .before .before .before .before .before .before .pre))
+          (c .before .before .before .before .before .before .before .before .pre))
           (c .before .before .before .loop-test .taken) (c .before .field-end .ensures),
     )
 
 arrange-class-requires : tie.Need-arrange-class-requires Inv-loop μ-loop
 arrange-class-requires c κs =
-    law.scanning-class (c .before .before .before .before .before .before .before .before .before .pre)
+    law.scanning-class (c .before .before .before .before .before .before .before .before .before .before .before .pre)
     (c .before .before .before .before .before .before .before .loop .inv .1
-    (c .before .before .before .before .before .before .before .before .before .pre))
+    (c .before .before .before .before .before .before .before .before .before .before .before .pre))
     (c .before .before .before .before .before .before .loop-test .taken)
     (c .before .before .before .before .field-end .ensures)
-    (sym (c .before .before .two-at .ensures .0) ∙ c .before .if1 .taken)
+    (sym (c .before .before .two-at2 .ensures .0) ∙ c .before .if1 .taken)
+
+sub-left : tie.Need-sub-left Inv-loop μ-loop
+sub-left c = search needs
 
 loop-less : tie.Need-loop-less Inv-loop μ-loop
 loop-less c =
     omega (
       arith,
       law.scanning-places
-          (c .before .before .before .before .before .before .before .before .before .before .before .before .pre)
+          (c .before .before .before .before .before .before .before .before .before .before .before .before .before .before .pre)
           (c .before .before .before .before .before .before .before .before .before .before .loop .inv .1
-          (c .before .before .before .before .before .before .before .before .before .before .before .before .pre))
+          (c .before .before .before .before .before .before .before .before .before .before .before .before .before .before .pre))
           (c .before .before .before .before .before .before .before .before .before .loop-test .taken)
           (c .before .before .before .before .before .before .before .field-end .ensures),
     )
@@ -85,7 +99,7 @@ loop-again c = (
       (c .before .before .before .before .before .before .before .before .before .before .loop .inv .1
       s) (c .before .before .before .before .before .before .before .before .before .loop-test .taken)
       (c .before .before .before .before .before .before .before .field-end .ensures)
-      (sym (c .before .before .before .before .before .two-at .ensures .0) ∙
+      (sym (c .before .before .before .before .before .two-at2 .ensures .0) ∙
       c .before .before .before .before .if1 .taken) (c .before .before .arrange-class .ensures),
 )
 
@@ -94,9 +108,9 @@ loop-less-2 c =
     omega (
       arith,
       law.scanning-places
-          (c .before .before .before .before .before .before .before .before .pre)
+          (c .before .before .before .before .before .before .before .before .before .before .pre)
           (c .before .before .before .before .before .before .loop .inv .1
-          (c .before .before .before .before .before .before .before .before .pre))
+          (c .before .before .before .before .before .before .before .before .before .before .pre))
           (c .before .before .before .before .before .loop-test .taken)
           (c .before .before .before .field-end .ensures),
     )
@@ -108,7 +122,7 @@ loop-again-2 c = (
       (c .before .before .before .before .before .before .loop .inv .1 s)
       (c .before .before .before .before .before .loop-test .taken)
       (c .before .before .before .field-end .ensures)
-      (λ z. c .if1 .left (c .before .two-at .ensures .0 ∙ z)),
+      (λ z. c .if1 .left (c .before .two-at2 .ensures .0 ∙ z)),
 )
 
 same-length : tie.Need-same-length Inv-loop μ-loop
@@ -123,12 +137,15 @@ arrange-subset-spec =
     (tie.spec
     Inv-loop
     μ-loop
-    add-end
+    mul-two-at
+    add-two-at
+    two-at-requires
     loop-holds
     field-end-requires
     sub-two-at
-    two-at-requires
+    two-at-requires-2
     arrange-class-requires
+    sub-left
     loop-less
     loop-again
     loop-less-2

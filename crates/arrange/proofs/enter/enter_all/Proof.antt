@@ -28,7 +28,7 @@ add-end : tie.Need-add-end Inv-loop μ-loop
 add-end c = omega (arith, c .before .before .before .before .before .before .pre .short)
 
 loop-holds : tie.Need-loop-holds Inv-loop μ-loop
-loop-holds c = (refl, λ d. law.all-begin d (c .before .before .clear-heads .ensures .blank))
+loop-holds c = (refl, λ d. law.all-begin d (c .before .before .clear-heads .ensures))
 
 field-end-requires : tie.Need-field-end-requires Inv-loop μ-loop
 field-end-requires c κs =
