@@ -2,25 +2,26 @@
 use mathlib.Core.Path.{_≡_, refl, sym, ap, ap₂, subst, _∙_}
 use mathlib.Core.List.{List, _++_, append-assoc}
 use mathlib.Core.Bool.{Bool, true, false}
-use Prim.Native.Nat.{ℕ, _+_, _-_, _≤_, _<_}
+use Prim.Native.Nat.{ℕ, _+_, _-_, _≤_, _<_, max}
 use native.Mathlib.Omega.{arith}
 use lib.ListN.{length, take, drop, getD, length-append, take-append-drop}
 use lib.Seq.{take-take}
-use lib.Dec.{ltb}
-use borrow.Author.Tests.{lt-ltb, ltb-true}
+use lib.Dec.{ltb, leb}
+use borrow.Author.Tests.{lt-ltb, ltb-true, leb-true, leb-false, le-leb, lt-leb}
 use Rattle.areas.specs.declared.area.Out.the-variants.{At, TooLarge}
 use Rattle.areas.specs.declared.span.Span.{Span}
-use Rattle.spec_trees.specs.Limits.{treeMax}
-use Rattle.spec_trees.specs.Tree.{Tree, node, Trees, ε, _▹_, Labels, bare, label, root, labels}
-use Rattle.spec_trees.specs.Size.{size, fits}
+use Rattle.spec_trees.specs.Limits.{treeMax, depthMax}
+use Rattle.spec_trees.specs.OptionLaws.{split}
+use Rattle.spec_trees.specs.Tree.{Tree, node, Trees, Labels, bare, label, root, labels}
+use Rattle.spec_trees.specs.Size.{size, depth, depthL, fits}
 use Rattle.spec_trees.specs.SizeLaws.{length-tree}
 use Rattle.spec_trees.specs.Bytes.{fieldBytes, bytes, treeF, labelFs, treeBytes}
 use Rattle.spec_trees.specs.Within.{Ok, OkL}
 use Rattle.areas.specs.Area.{Is, span, Wrote, headBytes, fieldEnd}
 use Rattle.areas.specs.AreaLaws.{length-field, is-content, fitted, drop-more, wrote-keep, written, wrote-seq, finish-at, is-copied}
 use Rattle.format.specs.Labels.{labelAt}
-use Rattle.format.specs.Stand.{rootBytes, labelsBytes, entryBytes, treesBytes, Holds}
-use Rattle.format.specs.StandLaws.{tree-parts, labels-first, labels-parts, labels-none, is-alone}
+use Rattle.format.specs.Stand.{rootBytes, labelsBytes, entryBytes}
+use Rattle.format.specs.StandLaws.{tree-parts, labels-first, labels-parts, labels-none}
 use Rattle.spec_stages.specs.Merge.{mergeRoot, merge}
 use Rattle.spec_stages.specs.MergeTwo.{mergeTwo, mergeTwoL, into}
 use Rattle.spec_stages.specs.MergeTwoLaws.{root-labels, two-merge, two-bare}
@@ -113,6 +114,26 @@ merged-content : (x y : Tree) → Ok x → Ok y → Behind x y → treeBytes (me
 merged-content x y ox oy h =
     sym (ap treeBytes (two-merge x y ox oy)) ∙ tree-content (mergeTwo x y) ∙ ap (λ (l : List ℕ). fieldBytes (2, l)) (two-content x y h)
 
+-- the merge is as deep as the deeper of the two
+joined-depth : (ls ms : Labels) → depthL (joinL ls ms) ≡ max (depthL ls) (depthL ms)
+unfolding joinL depthL
+joined-depth bare ms = omega arith
+joined-depth (label k a ls) ms = omega (arith, joined-depth ls ms)
+
+two-depth : (x y : Tree) → Behind x y → depth (mergeTwo x y) ≡ max (depth x) (depth y)
+unfolding mergeTwo depth
+two-depth (node r ls) (node q ms) h = omega (arith, ap depthL (two-apart ls ms (h .apart)), joined-depth ls ms)
+
+merged-depth : (x y : Tree) → Ok x → Ok y → Behind x y → depth (merge x y) ≡ max (depth x) (depth y)
+merged-depth x y ox oy h = sym (ap depth (two-merge x y ox oy)) ∙ two-depth x y h
+
+deeper : (a b n : ℕ) → leb b n ≡ true → leb (max a b) n ≡ leb a n
+deeper a b n q =
+    let l = leb-true b n q in
+    split (leb a n)
+    (λ p. let m = leb-true a n p in le-leb (max a b) n (omega arith) ∙ sym p)
+    (λ p. let m = leb-false a n p in lt-leb (max a b) n (omega arith) ∙ sym p)
+
 -- ---- the labels put behind those of the tree, and the tree's head stored anew
 
 -- what stands there already
@@ -159,6 +180,17 @@ module _ {w : List ℕ} {s se i ie l e : ℕ} (h : Addable w (span s se) (span i
   append-large q x y ox oy hx hy =
       refused (both (part-fits h k y hy) (fits-not (merge x y) (omega (arith, joined-ends x y ox oy hx hy)))) refl (λ top n. refl)
 
+  -- how deep the tree is says whether the merge fits
+  module _ (r : e - s ≤ treeMax) {d : Bool} (f : DepthSaid w (span s se) d) where
+    merge-fits : (x y : Tree) → Ok x → Ok y → Is w s se (treeBytes x) → Is w i ie (treeBytes y) → fits (merge x y) ≡ d
+    merge-fits x y ox oy hx hy =
+        fits-by-depth (merge x y) d (omega (arith, joined-ends x y ox oy hx hy))
+        (ap (λ n. leb n depthMax) (merged-depth x y ox oy (b x y ox hx hy refl)) ∙ deeper (depth x) (depth y) depthMax (depth-said y hy k) ∙ depth-said x hx f)
+
+    -- too deep
+    pub append-deep : d ≡ false → Added w w (span s se) (span i ie) TooLarge
+    append-deep q x y ox oy hx hy = refused (both (part-fits h k y hy) (merge-fits x y ox oy hx hy ∙ q)) refl (λ top n. refl)
+
   module _ {w1 w2 : List ℕ} (l1 : length w1 ≡ length w) (m : Wrote w w1 se (length w) (take (ie - l) (drop l w)) (At (se + (ie - l))))
       (p : Wrote w1 w2 s (s + 3) (headBytes 2 (e - (s + 3))) (At (s + 3))) where
     put-behind : (x y : Tree) → Ok x → Ok y → Is w s se (treeBytes x) → Is w i ie (treeBytes y) → Wrote w w2 s (length w) (treeBytes (merge x y)) (At e)
@@ -182,28 +214,12 @@ module _ {w : List ℕ} {s se i ie l e : ℕ} (h : Addable w (span s se) (span i
         let f = put-behind x y ox oy hx hy .fits e refl in
         drop-more w w2 e top (omega (arith, append-places)) (f .beyond)
 
-    pub append-one : Holds treesBytes w2 s e
-    append-one =
-        let x = h .whole in
-        let y = h .part in
-        record { value = merge (x .tree) (y .tree) ▹ ε; value-is = is-alone (merge (x .tree) (y .tree)) (behind-is (x .tree) (y .tree) (x .ok) (y .ok) (x .tree-is) (y .tree-is)) }
-
-    module _ (r : e - s ≤ treeMax) {d : Bool} (f : DepthSaid w2 (span s e) d) where
-      merge-fits : (x y : Tree) → Ok x → Ok y → Is w s se (treeBytes x) → Is w i ie (treeBytes y) → fits (merge x y) ≡ d
-      merge-fits x y ox oy hx hy =
-          fits-by-depth (merge x y) d (omega (arith, joined-ends x y ox oy hx hy)) (depth-said (merge x y) (behind-is x y ox oy hx hy) f)
-
-      -- too deep
-      pub append-deep : d ≡ false → Added w w2 (span s se) (span i ie) TooLarge
-      append-deep q x y ox oy hx hy =
-          refused (both (part-fits h k y hy) (merge-fits x y ox oy hx hy ∙ q)) (behind-kept x y ox oy hx hy) (behind-beyond x y ox oy hx hy)
-
-      pub append-done : d ≡ true → Added w w2 (span s se) (span i ie) (At e)
-      append-done q x y ox oy hx hy = record {
-        fit = λ n t. both (part-fits h k y hy) (merge-fits x y ox oy hx hy ∙ q);
-        merge-is = λ n t. let j : e ≡ n = cc in subst (λ n. Is w2 s n (treeBytes (merge x y))) j (behind-is x y ox oy hx hy);
-        ends = λ n t. let j : e ≡ n = cc in omega (arith, joined-ends x y ox oy hx hy);
-        large = λ t. let j : _≡_ {A = ℕ} 0 1 = cc in absurd (omega arith);
-        below = behind-kept x y ox oy hx hy;
-        beyond = behind-beyond x y ox oy hx hy;
-      }
+    pub append-done : e - s ≤ treeMax → {d : Bool} → DepthSaid w (span s se) d → d ≡ true → Added w w2 (span s se) (span i ie) (At e)
+    append-done r f q x y ox oy hx hy = record {
+      fit = λ n t. both (part-fits h k y hy) (merge-fits r f x y ox oy hx hy ∙ q);
+      merge-is = λ n t. let j : e ≡ n = cc in subst (λ n. Is w2 s n (treeBytes (merge x y))) j (behind-is x y ox oy hx hy);
+      ends = λ n t. let j : e ≡ n = cc in omega (arith, joined-ends x y ox oy hx hy);
+      large = λ t. let j : _≡_ {A = ℕ} 0 1 = cc in absurd (omega arith);
+      below = behind-kept x y ox oy hx hy;
+      beyond = behind-beyond x y ox oy hx hy;
+    }

@@ -55,7 +55,8 @@ pub fn goes_behind(area: &[u8], built: Span, part: Span) -> bool
     last < label_at(area, l)
 }
 
-/// Puts the labels of the part, which goes behind the tree, behind the tree's, and answers where the merge ends.
+/// Puts the labels of the part, which goes behind the tree, behind the tree's, and answers where the merge ends. It is as
+/// deep as the deeper of the two, and the part is not too deep.
 pub fn append_part(work: &mut [u8], built: Span, part: Span) -> Out
     requires { ⌜ Addable (now work) built part × DepthSaid (now work) part true × GoesBehind (now work) built part true ⌝ }
     ensures { λ r. ⌜ Added (now (work .entry)) (now (work .exit)) built part r ⌝ }
@@ -65,18 +66,14 @@ pub fn append_part(work: &mut [u8], built: Span, part: Span) -> Out
     if Limits::TREE < e - built.from {
         return Out::TooLarge;
     }
+    if !within_depth(work, built, Limits::DEPTH) {
+        return Out::TooLarge;
+    }
     let labels = Span {
         from: l,
         to: part.to,
     };
     move_down(work, labels, built.to);
     put_head(work, built.from, 2, e);
-    let merged = Span {
-        from: built.from,
-        to: e,
-    };
-    if !within_depth(work, merged, Limits::DEPTH) {
-        return Out::TooLarge;
-    }
     Out::At(e)
 }

@@ -2,14 +2,9 @@
 use native.Mathlib.Omega.{arith}
 use mathlib.Core.Path.{refl}
 use borrow.Author.Tests.{not-true, not-false}
-use Rattle.format.specs.StandLaws.{tree-places}
-use Rattle.build.specs.BehindLaws.{
-  append-places,
-  append-large,
-  append-one,
-  append-deep,
-  append-done,
-}
+use Rattle.spec_trees.specs.Tree.{ε, _▹_}
+use Rattle.format.specs.StandLaws.{tree-places, is-alone}
+use Rattle.build.specs.BehindLaws.{append-places, append-large, append-deep, append-done}
 use borrow.Author.Needs.{needs}
 use Rattle.build.proofs.behind.append_part.Statement.{statement}
 use Rattle.build.proofs.behind.append_part.Tie as tie
@@ -60,29 +55,53 @@ returns c =
     (c .before .before .before .before .before .before .before .before .pre .2)
     (c .before .before .before .before .field-end .ensures) refl (omega (arith, c .if1 .taken))
 
+within-depth-requires : tie.Need-within-depth-requires
+within-depth-requires c κs =
+    record {
+      value = c .before .before .before .before .before .before .before .before .before .pre .0 .whole .tree
+          ▹ ε;
+      value-is = is-alone
+          (c .before .before .before .before .before .before .before .before .before .pre .0 .whole .tree)
+          (c .before .before .before .before .before .before .before .before .before .pre .0 .whole .tree-is);
+    }
+
+same-length-2 : tie.Need-same-length-2
+same-length-2 c = search needs
+
+returns-2 : tie.Need-returns-2
+returns-2 c =
+    append-deep (c .before .before .before .before .before .before .before .before .before .before .before .pre .0)
+    (c .before .before .before .before .before .before .before .before .before .before .before .pre .1)
+    (c .before .before .before .before .before .before .before .before .before .before .before .pre .2)
+    (c .before .before .before .before .before .before .before .field-end .ensures) refl
+    (omega (arith, c .before .before .before .if1 .left)) (c .before .within-depth .ensures)
+    (not-true _ (c .if2 .taken))
+
 move-down-requires : tie.Need-move-down-requires
 move-down-requires c κs = (
   omega (
     arith,
     (append-places
-        (c .before .before .before .before .before .before .before .before .before .pre .0)
-        (c .before .before .before .before .before .before .before .before .before .pre .1)
-        (c .before .before .before .before .before .before .before .before .before .pre .2)
-        (c .before .before .before .before .before .field-end .ensures) refl),
+        (c .before .before .before .before .before .before .before .before .before .before .before .before .pre .0)
+        (c .before .before .before .before .before .before .before .before .before .before .before .before .pre .1)
+        (c .before .before .before .before .before .before .before .before .before .before .before .before .pre .2)
+        (c .before .before .before .before .before .before .before .before .field-end .ensures) refl),
   ),
   omega (
     arith,
-    (append-places (c .before .before .before .before .before .before .before .before .before .pre .0)
-        (c .before .before .before .before .before .before .before .before .before .pre .1)
-        (c .before .before .before .before .before .before .before .before .before .pre .2)
-        (c .before .before .before .before .before .field-end .ensures) refl),
+    (append-places
+        (c .before .before .before .before .before .before .before .before .before .before .before .before .pre .0)
+        (c .before .before .before .before .before .before .before .before .before .before .before .before .pre .1)
+        (c .before .before .before .before .before .before .before .before .before .before .before .before .pre .2)
+        (c .before .before .before .before .before .before .before .before .field-end .ensures) refl),
   ),
   omega (
     arith,
-    (append-places (c .before .before .before .before .before .before .before .before .before .pre .0)
-        (c .before .before .before .before .before .before .before .before .before .pre .1)
-        (c .before .before .before .before .before .before .before .before .before .pre .2)
-        (c .before .before .before .before .before .field-end .ensures) refl),
+    (append-places
+        (c .before .before .before .before .before .before .before .before .before .before .before .before .pre .0)
+        (c .before .before .before .before .before .before .before .before .before .before .before .before .pre .1)
+        (c .before .before .before .before .before .before .before .before .before .before .before .before .pre .2)
+        (c .before .before .before .before .before .before .before .before .field-end .ensures) refl),
   ),
 )
 
@@ -91,53 +110,28 @@ put-head-requires c κs = (
   omega (
     arith,
     (append-places
-        (c .before .before .before .before .before .before .before .before .before .before .before .before .before .pre .0)
-        (c .before .before .before .before .before .before .before .before .before .before .before .before .before .pre .1)
-        (c .before .before .before .before .before .before .before .before .before .before .before .before .before .pre .2)
-        (c .before .before .before .before .before .before .before .before .before .field-end .ensures)
+        (c .before .before .before .before .before .before .before .before .before .before .before .before .before .before .before .before .pre .0)
+        (c .before .before .before .before .before .before .before .before .before .before .before .before .before .before .before .before .pre .1)
+        (c .before .before .before .before .before .before .before .before .before .before .before .before .before .before .before .before .pre .2)
+        (c .before .before .before .before .before .before .before .before .before .before .before .before .field-end .ensures)
         refl),
   ),
   omega (
     arith,
     (append-places
-        (c .before .before .before .before .before .before .before .before .before .before .before .before .before .pre .0)
-        (c .before .before .before .before .before .before .before .before .before .before .before .before .before .pre .1)
-        (c .before .before .before .before .before .before .before .before .before .before .before .before .before .pre .2)
-        (c .before .before .before .before .before .before .before .before .before .field-end .ensures)
+        (c .before .before .before .before .before .before .before .before .before .before .before .before .before .before .before .before .pre .0)
+        (c .before .before .before .before .before .before .before .before .before .before .before .before .before .before .before .before .pre .1)
+        (c .before .before .before .before .before .before .before .before .before .before .before .before .before .before .before .before .pre .2)
+        (c .before .before .before .before .before .before .before .before .before .before .before .before .field-end .ensures)
         refl),
     c .before .before .before .move-down .kept .0,
   ),
   omega (
     arith,
-    c .before .before .before .before .before .before .before .before .before .before .before .before .before .pre .0 .small,
+    c .before .before .before .before .before .before .before .before .before .before .before .before .before .before .before .before .pre .0 .small,
     c .before .before .before .move-down .kept .0,
   ),
 )
-
-within-depth-requires : tie.Need-within-depth-requires
-within-depth-requires c κs =
-    append-one (c .before .before .before .before .before .before .before .before .before .before .before .before .before .before .before .before .before .pre .0)
-    (c .before .before .before .before .before .before .before .before .before .before .before .before .before .before .before .before .before .pre .1)
-    (c .before .before .before .before .before .before .before .before .before .before .before .before .before .before .before .before .before .pre .2)
-    (c .before .before .before .before .before .before .before .before .before .before .before .before .before .field-end .ensures)
-    refl (c .before .before .before .before .before .before .before .move-down .kept .0)
-    (c .before .before .before .before .before .before .before .move-down .ensures)
-    (c .before .before .before .put-head .ensures)
-
-same-length-2 : tie.Need-same-length-2
-same-length-2 c = search needs
-
-returns-2 : tie.Need-returns-2
-returns-2 c =
-    append-deep (c .before .before .before .before .before .before .before .before .before .before .before .before .before .before .before .before .before .before .before .pre .0)
-    (c .before .before .before .before .before .before .before .before .before .before .before .before .before .before .before .before .before .before .before .pre .1)
-    (c .before .before .before .before .before .before .before .before .before .before .before .before .before .before .before .before .before .before .before .pre .2)
-    (c .before .before .before .before .before .before .before .before .before .before .before .before .before .before .before .field-end .ensures)
-    refl (c .before .before .before .before .before .before .before .before .before .move-down .kept .0)
-    (c .before .before .before .before .before .before .before .before .before .move-down .ensures)
-    (c .before .before .before .before .before .put-head .ensures)
-    (omega (arith, c .before .before .before .before .before .before .before .before .before .before .before .if1 .left))
-    (c .before .within-depth .ensures) (not-true _ (c .if2 .taken))
 
 same-length-3 : tie.Need-same-length-3
 same-length-3 c = search needs
@@ -148,11 +142,12 @@ returns-3 c =
     (c .before .before .before .before .before .before .before .before .before .before .before .before .before .before .before .before .before .before .before .pre .1)
     (c .before .before .before .before .before .before .before .before .before .before .before .before .before .before .before .before .before .before .before .pre .2)
     (c .before .before .before .before .before .before .before .before .before .before .before .before .before .before .before .field-end .ensures)
-    refl (c .before .before .before .before .before .before .before .before .before .move-down .kept .0)
-    (c .before .before .before .before .before .before .before .before .before .move-down .ensures)
-    (c .before .before .before .before .before .put-head .ensures)
+    refl (c .before .before .before .before .before .before .move-down .kept .0)
+    (c .before .before .before .before .before .before .move-down .ensures)
+    (c .before .before .put-head .ensures)
     (omega (arith, c .before .before .before .before .before .before .before .before .before .before .before .if1 .left))
-    (c .before .within-depth .ensures) (not-false _ (c .if2 .left))
+    (c .before .before .before .before .before .before .before .before .before .within-depth .ensures)
+    (not-false _ (c .before .before .before .before .before .before .before .before .if2 .left))
 
 pub append-part-spec : {M : Type 1} → statement M
 append-part-spec =
@@ -165,10 +160,10 @@ append-part-spec =
     sub-if1
     same-length
     returns
-    move-down-requires
-    put-head-requires
     within-depth-requires
     same-length-2
     returns-2
+    move-down-requires
+    put-head-requires
     same-length-3
     returns-3)
