@@ -6,9 +6,8 @@ use Prim.Native.Nat.{ℕ, suc, _+_, _-_, _≤_, _<_}
 use native.Mathlib.Nat.{add-zero}
 use native.Mathlib.Numerals.{add-one}
 use native.Mathlib.Omega.{arith}
-use lib.ListN.{length, take, drop, getD, set, take-append-drop, length-append, length-take, length-drop, List·getD-append, drop-of-length-le, replicate}
-use lib.Seq.{slice, slice-cons, slice-empty, length-slice, length-take-le, take-all, take-take, take-add, take-at, take-suc-set, take-append-add, drop-at, drop-drop, drop-append-add, drop-append-seam, drop-append-le, take-append-le, drop-set-lt, getD-take, getD-drop, paste, paste-suc, take-paste, drop-paste}
-use borrow.Author.Tests.{le-leb, lt-leb}
+use lib.ListN.{length, take, drop, getD, set, length-append, length-take, length-drop, List·getD-append, drop-of-length-le, replicate}
+use lib.Seq.{slice, slice-cons, slice-empty, length-slice, length-take-le, take-all, take-take, take-add, take-at, take-suc-set, take-append-add, drop-at, drop-drop, drop-append-add, drop-append-seam, drop-set-lt, getD-take, getD-drop, paste, paste-suc, take-paste, drop-paste}
 use Rattle.areas.specs.declared.area.Out.{Out}
 use Rattle.areas.specs.declared.area.Out.the-variants.{At, TooLarge}
 use Rattle.spec_trees.specs.Bytes.{Field, fieldBytes}

@@ -1,15 +1,15 @@
 -- Laws of entering all trees: none at first, one after another.
 use mathlib.Core.Path.{_≡_, refl, sym, ap, ap₂, subst, _∙_}
 use mathlib.Core.List.{List, [], _∷_, _++_, append-nil, append-assoc}
-use Prim.Native.Nat.{ℕ, _+_, _*_, _-_, _≤_, _<_}
+use Prim.Native.Nat.{ℕ, _+_, _*_, _≤_, _<_}
 use native.Mathlib.Omega.{arith}
 use lib.ListN.{length, take, drop, getD, replicate, getD-replicate, List·getD-append, length-drop, length-replicate}
 use lib.Seq.{getD-append-add, length-take-le, drop-at, drop-append-add, drop-drop}
 use Rattle.spec_trees.specs.Limits.{depthMax, workMin}
-use Rattle.spec_trees.specs.Lists.{All, filter}
+use Rattle.spec_trees.specs.Lists.{filter}
 use Rattle.spec_trees.specs.ListLaws.{All-left, All-right}
 use Rattle.spec_trees.specs.Tree.{Tree}
-use Rattle.spec_trees.specs.Bytes.{bytes, treeFs, treeBytes}
+use Rattle.spec_trees.specs.Bytes.{bytes, treeFs}
 use Rattle.spec_trees.specs.Within.{Allowed, AllowedA}
 use Rattle.areas.specs.Area.{Is, fieldEnd, span}
 use Rattle.areas.specs.declared.span.Span.{Span}
@@ -19,12 +19,10 @@ use Rattle.queries.specs.Places.{arrayTrees}
 use Rattle.queries.specs.TreesLaws.{ArrayParts, array-parts, array-none, array-behind}
 use Rattle.spec_queries.specs.Query.{Pair}
 use Rattle.paths.specs.ComparedLaws.{is-none}
-use Rattle.stream.specs.Map.{treesMax}
 use Rattle.arrange.specs.Links.{spots, passing, offset, firstOf}
 use Rattle.spec_stages.specs.Classes.{scan}
-use Rattle.arrange.specs.Index.{base, slots, headAt, countAt, standing, Index, Entering, Collected}
-use Rattle.arrange.specs.Entering.{Enters, Cleared, EntersAll}
-use Rattle.arrange.specs.StandingLaws.{length-none}
+use Rattle.arrange.specs.Index.{base, Index, Entering, Collected}
+use Rattle.arrange.specs.Entering.{Enters, Cleared}
 
 -- ---- the heads are cleared: a part of the area came back as zeros
 module _ (w y : List ℕ) (l : length w ≡ workMin) (z : y ≡ replicate (length (take 5464 (drop 38228 w))) 0) where

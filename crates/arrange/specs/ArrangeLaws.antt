@@ -1,9 +1,9 @@
 -- Laws of arranging all classes: subset by subset, and the front has room for them.
 use mathlib.Core.Path.{_≡_, refl, sym, ap, subst, _∙_}
 use mathlib.Core.List.{List, [], _∷_, _++_, append-nil, append-assoc}
-use Prim.Native.Nat.{ℕ, zero, suc, _+_, _*_, _-_, _^_, _≤_, _<_}
+use Prim.Native.Nat.{ℕ, zero, suc, _+_, _-_, _^_, _≤_, _<_}
 use native.Mathlib.Omega.{arith}
-use lib.ListN.{length, drop}
+use lib.ListN.{length}
 use lib.Pow.{pow-mono}
 use Rattle.spec_trees.specs.Limits.{workMin}
 use Rattle.spec_trees.specs.Lists.{gather}
@@ -30,7 +30,7 @@ use Rattle.stream.specs.Map.{treesMax}
 use Rattle.arrange.specs.declared.arrange.Filled.{Filled}
 use Rattle.arrange.specs.Index.{base, Index, Collected}
 use Rattle.arrange.specs.Entering.{EntersAll}
-use Rattle.arrange.specs.Arrange.{arranged, treesOf, numberBytes, numbersAt, indexAt, Front, Room, Grows, Subset, SubsetArranged, Arranged}
+use Rattle.arrange.specs.Arrange.{arranged, treesOf, numberBytes, numbersAt, indexAt, Front, Grows, Subset, SubsetArranged, Arranged}
 use Rattle.arrange.specs.KeptLaws.{index-kept}
 use Rattle.arrange.specs.FrontLaws.{length-both, arranged-trees, arranged-both, grows-none, grows-then}
 

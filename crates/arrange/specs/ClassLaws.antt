@@ -2,9 +2,9 @@
 use mathlib.Core.Path.{_≡_, refl, sym, ap, subst, _∙_}
 use mathlib.Core.List.{List, [], _∷_, _++_, append-nil, append-assoc}
 use mathlib.Core.Logic.{_≢_}
-use Prim.Native.Nat.{ℕ, _+_, _*_, _-_, _≤_, _<_}
+use Prim.Native.Nat.{ℕ, _+_, _-_, _≤_}
 use native.Mathlib.Omega.{arith}
-use lib.ListN.{length, drop}
+use lib.ListN.{length}
 use Rattle.spec_trees.specs.Limits.{workMin}
 use Rattle.spec_trees.specs.Tree.{Tree}
 use Rattle.spec_trees.specs.Bytes.{treeBytes}
@@ -18,7 +18,7 @@ use Rattle.arrange.specs.Links.{Spot, elements, up, Walk}
 use Rattle.arrange.specs.IndexLaws.{walk-ended, walk-on}
 use Rattle.arrange.specs.Index.{base, nextAt, sizeOf}
 use Rattle.arrange.specs.Entering.{Stood}
-use Rattle.arrange.specs.Arrange.{numbered, treesOf, indexAt, Room, Grows, Placed, Following}
+use Rattle.arrange.specs.Arrange.{numbered, indexAt, Room, Grows, Placed, Following}
 use Rattle.areas.specs.NumberLaws.{two-above}
 use Rattle.arrange.specs.StandingLaws.{six, length-cons, length-none, tree-end}
 use Rattle.arrange.specs.FrontLaws.{grows-none, grows-then}

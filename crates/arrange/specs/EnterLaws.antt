@@ -9,7 +9,7 @@ use borrow.Author.Tests.{eq-eqb, ne-eqb}
 use Rattle.spec_trees.specs.OptionLaws.{split, apart, cond-cases}
 use Rattle.spec_trees.specs.Lists.{filter, all}
 use Rattle.spec_stages.specs.Equivalence.{Equivalence}
-use mathlib.Core.Logic.{_⊎_, inl, inr}
+use mathlib.Core.Logic.{inl, inr}
 use Rattle.spec_trees.specs.Lists.{All}
 use Rattle.arrange.specs.Links.{Spot, Apart, Rising, passing, offset, firstOf, noneOf, Positive, Links, Heads, Entered}
 use Rattle.spec_stages.specs.EquivalenceLaws.{turned}

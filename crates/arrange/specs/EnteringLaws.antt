@@ -3,20 +3,18 @@ use mathlib.Core.Path.{_≡_, refl, sym, ap, subst, _∙_}
 use mathlib.Core.List.{List, [], _∷_, _++_, reverse, append-nil, append-assoc}
 use mathlib.Core.Bool.{Bool, true, false, cond, _&&_, and-false}
 use mathlib.Core.Logic.{_≢_, _⊎_, inl, inr}
-use Prim.Native.Nat.{ℕ, _+_, _-_, _*_, _^_, _≤_, _<_}
+use Prim.Native.Nat.{ℕ, _+_, _≤_, _<_}
 use lib.Pow.{pow-mono}
 use native.Mathlib.Omega.{arith}
 use lib.ListN.{length, drop}
 use lib.Dec.{eqb, ltb}
 use borrow.Author.Tests.{eqb-true, eqb-false, ltb-true, ltb-false, eq-eqb, ne-eqb}
 use Rattle.spec_trees.specs.OptionLaws.{split, apart, cond-cases}
-use Rattle.spec_trees.specs.Limits.{workMin}
-use Rattle.spec_trees.specs.Lists.{All, all, filter}
+use Rattle.spec_trees.specs.Lists.{All, filter}
 use Rattle.spec_trees.specs.ListLaws.{All-imply, All-reverse}
 use Rattle.spec_trees.specs.Tree.{Tree}
 use Rattle.areas.specs.declared.span.Span.{Span}
-use Rattle.areas.specs.Area.{Is, Wrote}
-use Rattle.areas.specs.AreaLaws.{wrote-beyond}
+use Rattle.areas.specs.Area.{Wrote}
 use Rattle.areas.specs.declared.area.Out.the-variants.{At}
 use Rattle.areas.specs.Number.{twoAt, twoBytes}
 use Rattle.spec_queries.specs.Query.{Pair}
@@ -25,7 +23,7 @@ use Rattle.spec_stages.specs.Classes.{unlike, begins, scan}
 use Rattle.spec_stages.specs.AlikeLaws.{alike-equivalence, sum-below}
 use Rattle.group.specs.Keys.{FewPairs}
 use Rattle.stream.specs.Map.{treesMax}
-use Rattle.arrange.specs.Links.{Spot, spots, end, elements, Apart, Rising, passing, offset, firstOf, Entered, Stored}
+use Rattle.arrange.specs.Links.{Spot, spots, elements, Apart, passing, offset, firstOf, Entered, Stored}
 use Rattle.arrange.specs.LinksLaws.{first-step}
 use Rattle.arrange.specs.EnterLaws.{apart-found, rising-left}
 use Rattle.arrange.specs.SpotsLaws.{spots-append, spots-elements, first-unseen}

@@ -1,27 +1,24 @@
 -- Laws of the front as it grows: one tree, several, one list of trees behind another.
 use mathlib.Core.Path.{_≡_, refl, sym, ap, ap₂, subst, _∙_}
-use mathlib.Core.List.{List, [], _∷_, _++_, map, map-append, append-nil, append-assoc}
-use Prim.Native.Nat.{ℕ, _+_, _*_, _-_, _≤_, _<_}
+use mathlib.Core.List.{List, [], _∷_, _++_, map-append, append-nil, append-assoc}
+use Prim.Native.Nat.{ℕ, _+_, _*_, _-_, _≤_}
 use native.Mathlib.Omega.{arith}
 use lib.ListN.{length, take, drop, length-append}
-use Rattle.spec_trees.specs.Limits.{workMin}
 use Rattle.spec_trees.specs.Lists.{gather}
 use Rattle.spec_trees.specs.FilterLaws.{gather-append}
 use Rattle.spec_trees.specs.Tree.{Tree}
-use Rattle.spec_trees.specs.Bytes.{bytes, treeFs, treeBytes}
+use Rattle.spec_trees.specs.Bytes.{treeBytes}
 use Rattle.areas.specs.Area.{Is, IsAt, Wrote, span}
 use Rattle.areas.specs.declared.area.Out.the-variants.{At}
-use Rattle.areas.specs.declared.span.Span.{Span}
 use Rattle.areas.specs.AreaLaws.{is-beyond, is-keep, is-join, is-copied, wrote-keep, wrote-beyond, written, drop-more}
 use Rattle.areas.specs.Number.{twoBytes}
 use Rattle.queries.specs.Places.{arrayTrees}
 use Rattle.queries.specs.TreesLaws.{array-behind}
-use Rattle.paths.specs.ComparedLaws.{trees-append, is-none}
+use Rattle.paths.specs.ComparedLaws.{trees-append}
 use Rattle.spec_stages.specs.Group.{Class}
 use Rattle.spec_stages.specs.Flat.{members, flat}
-use Rattle.stream.specs.Map.{treesMax}
 use Rattle.arrange.specs.declared.arrange.Filled.{Filled}
-use Rattle.arrange.specs.Index.{base, sizeOf}
+use Rattle.arrange.specs.Index.{base}
 use Rattle.arrange.specs.Arrange.{numbered, arranged, treesOf, numberBytes, numbersAt, indexAt, Front, Room, Grows}
 use Rattle.arrange.specs.StandingLaws.{six, length-cons, length-none}
 

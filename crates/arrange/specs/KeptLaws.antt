@@ -12,7 +12,7 @@ use Rattle.spec_queries.specs.Query.{Pair}
 use Rattle.spec_stages.specs.Group.{alike}
 use Rattle.arrange.specs.Links.{Spot, spots, sameSlot}
 use Rattle.arrange.specs.LinksLaws.{links-kept}
-use Rattle.arrange.specs.Index.{base, backAt, nextAt, markAt, slots, headAt, countAt, sizeOf, standing, slot, Marks, Index}
+use Rattle.arrange.specs.Index.{base, backAt, nextAt, markAt, headAt, countAt, sizeOf, standing, slot, Marks, Index}
 use Rattle.arrange.specs.Arrange.{indexAt}
 use Rattle.areas.specs.NumberLaws.{two-above}
 

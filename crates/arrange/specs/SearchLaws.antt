@@ -1,14 +1,13 @@
 -- Laws of the search for the last tree with the same key: it goes back along the trees of one slot.
-use mathlib.Core.Path.{_≡_, refl, sym, ap, subst, _∙_}
+use mathlib.Core.Path.{_≡_, sym, subst, _∙_}
 use mathlib.Core.List.{List, [], _∷_, _++_, reverse}
 use mathlib.Core.Bool.{Bool, true, false}
 use mathlib.Core.Logic.{_≢_}
-use Prim.Native.Nat.{ℕ, _+_, _*_, _%_, _≤_, _<_}
+use Prim.Native.Nat.{ℕ, _+_, _%_, _≤_, _<_}
 use native.Mathlib.Omega.{arith}
 use lib.ListN.{length}
 use lib.Dec.{eqb}
-use Rattle.spec_trees.specs.Limits.{depthMax, workMin}
-use Rattle.spec_trees.specs.Lists.{All}
+use Rattle.spec_trees.specs.Limits.{workMin}
 use Rattle.spec_trees.specs.Tree.{Tree}
 use Rattle.spec_trees.specs.Bytes.{treeBytes}
 use Rattle.areas.specs.Area.{Is, fieldEnd, span}
@@ -16,16 +15,16 @@ use Rattle.areas.specs.declared.span.Span.{Span}
 use Rattle.areas.specs.Number.{twoAt}
 use Rattle.spec_queries.specs.Query.{Pair}
 use Rattle.queries.specs.Places.{pairsBytes, HoldsAt}
-use Rattle.spec_stages.specs.Group.{key, alike}
+use Rattle.spec_stages.specs.Group.{alike}
 use Rattle.spec_stages.specs.AlikeLaws.{alike-keys, alike-equivalence}
 use Rattle.group.specs.Keys.{AlikeIs}
 use Rattle.group.specs.KeyHash.{keyHash}
 use Rattle.stream.specs.Map.{treesMax}
-use Rattle.arrange.specs.Links.{Spot, spots, end, down, Rising, passing, firstOf, Walk}
+use Rattle.arrange.specs.Links.{Spot, end, down, Rising, passing, firstOf, Walk}
 use Rattle.arrange.specs.LinksLaws.{search}
 use Rattle.arrange.specs.IndexLaws.{index-walk, walk-down, rising-behind, search-ended, search-on}
 use Rattle.arrange.specs.Index.{base, backAt, slots, sizeOf, standing, slot, Entering}
-use Rattle.arrange.specs.Entering.{Search, lastLike, LastIs, Stood, Searching}
+use Rattle.arrange.specs.Entering.{Search, lastLike, Stood, Searching}
 use Rattle.arrange.specs.StandingLaws.{six, end-is, tree-end, all-stood}
 
 -- the number of a slot is below their count

@@ -14,7 +14,7 @@ use Rattle.areas.specs.Area.{Is, fieldEnd}
 use Rattle.areas.specs.AreaLaws.{is-left, is-right, is-field-end}
 use Rattle.queries.specs.Places.{arrayTrees}
 use Rattle.stream.specs.Map.{treesMax}
-use Rattle.arrange.specs.Links.{Spot, spots, end, elements}
+use Rattle.arrange.specs.Links.{spots, end}
 use Rattle.arrange.specs.Index.{base, sizeOf}
 use Rattle.arrange.specs.Entering.{Stood}
 

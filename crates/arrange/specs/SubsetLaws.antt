@@ -1,19 +1,17 @@
 -- Laws of arranging the classes of a subset: the mark of each tree tells whether it begins one.
-use mathlib.Core.Path.{_≡_, refl, sym, ap, ap₂, subst, _∙_}
+use mathlib.Core.Path.{_≡_, refl, sym, ap, subst, _∙_}
 use mathlib.Core.List.{List, [], _∷_, _++_, append-nil, append-assoc}
-use mathlib.Core.Bool.{Bool, true, false, cond, _&&_, and-true, and-false}
-use mathlib.Core.Logic.{_≢_}
-use Prim.Native.Nat.{ℕ, _+_, _*_, _-_, _≤_, _<_}
+use mathlib.Core.Bool.{Bool, true, false, _&&_, and-true, and-false}
+use Prim.Native.Nat.{ℕ, _+_, _-_, _≤_, _<_}
 use native.Mathlib.Omega.{arith}
-use lib.ListN.{length, drop}
+use lib.ListN.{length}
 use lib.Dec.{eqb}
 use borrow.Author.Tests.{eq-eqb, ne-eqb}
-use Rattle.spec_trees.specs.OptionLaws.{split}
 use Rattle.spec_trees.specs.Limits.{workMin}
 use Rattle.spec_trees.specs.Lists.{All, filter, gather}
 use Rattle.spec_trees.specs.Tree.{Tree}
 use Rattle.spec_trees.specs.Within.{AllowedA}
-use Rattle.areas.specs.Area.{Is, fieldEnd, span}
+use Rattle.areas.specs.Area.{Is, fieldEnd}
 use Rattle.areas.specs.AreaLaws.{is-beyond}
 use Rattle.areas.specs.Number.{twoAt}
 use Rattle.spec_queries.specs.Query.{Pair}
@@ -30,7 +28,7 @@ use Rattle.arrange.specs.SpotsLaws.{spots-append, spots-elements}
 use Rattle.arrange.specs.IndexLaws.{class-walk, class-elements}
 use Rattle.arrange.specs.Index.{base, nextAt, markAt, countAt, sizeOf, standing, mark, Marks, Index}
 use Rattle.arrange.specs.Entering.{Stood}
-use Rattle.arrange.specs.Arrange.{numbered, arranged, treesOf, indexAt, Room, Grows, Following, Follows, Subset, SubsetArranged}
+use Rattle.arrange.specs.Arrange.{numbered, arranged, indexAt, Grows, Following, Follows, Subset}
 use Rattle.arrange.specs.StandingLaws.{six, length-cons, length-none, end-is, all-stood}
 use Rattle.arrange.specs.KeptLaws.{index-kept}
 use Rattle.arrange.specs.FrontLaws.{length-both, numbered-trees, arranged-behind, grows-none, grows-then}

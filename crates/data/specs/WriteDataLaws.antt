@@ -9,7 +9,7 @@ use lib.ListN.{length, take, drop}
 use Rattle.areas.specs.declared.area.Out.{Out}
 use Rattle.spec_trees.specs.Tree.{Tree, node, boolean, bare, list, root}
 use Rattle.spec_trees.specs.Bytes.{fieldBytes, bytes, rootF, treeF, treeBytes}
-use Rattle.areas.specs.Area.{Is, Wrote, fieldEnd, IsAt, span}
+use Rattle.areas.specs.Area.{Wrote, fieldEnd, IsAt, span}
 use Rattle.areas.specs.declared.span.Span.{Span}
 use Rattle.areas.specs.AreaLaws.{is-keep, is-part}
 use Rattle.spec_trees.specs.Limits.{depthMax, divisorMax}

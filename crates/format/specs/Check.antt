@@ -7,7 +7,6 @@ use lib.Seq.{slice}
 use lib.Dec.{ltb}
 use Rattle.spec_trees.specs.Options.{maybe, some?}
 use Rattle.spec_trees.specs.Lists.{each}
-use Rattle.spec_trees.specs.Tree.{Tree}
 use Rattle.spec_trees.specs.Bytes.{Field}
 use Rattle.spec_trees.specs.Readers.{inside, one, Tested, accepted, overlong, malformed}
 use Rattle.spec_trees.specs.Decode.{rootR, arrayWith, labelR, labelsWith, treeR, arrayR}

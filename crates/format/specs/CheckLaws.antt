@@ -1,7 +1,7 @@
 -- The steps of the check, in the terms in which the code meets them, and what an accepted array is.
 use mathlib.Core.Path.{_≡_, refl, sym, ap, subst, _∙_}
 use mathlib.Core.List.{List, [], _∷_}
-use mathlib.Core.Bool.{Bool, true, false, cond, _&&_}
+use mathlib.Core.Bool.{Bool, true, false, _&&_}
 use mathlib.Core.Option.{Option, none, some, Option·map}
 use Prim.Native.Nat.{ℕ, zero, suc, _+_, _-_, _*_, _≤_, _<_}
 use native.Mathlib.Numerals.{sub-one}
@@ -14,7 +14,7 @@ use Rattle.spec_trees.specs.Options.{_>>=_, only, maybe, some?}
 use Rattle.spec_trees.specs.Lists.{each}
 use Rattle.spec_trees.specs.Limits.{arrayMax, treeMax, depthMax, labelMax, textMax}
 use Rattle.spec_trees.specs.Tree.{Tree, isLabel}
-use Rattle.spec_trees.specs.Readers.{Reader, inside, one, chosen, among, tagged, emptied, accepted, overlong, wellFormed, tested}
+use Rattle.spec_trees.specs.Readers.{Reader, inside, one, chosen, among, tagged, emptied, wellFormed, tested}
 use Rattle.spec_trees.specs.Decode.{bit, rootR, arrayWith, labelC, labelR, labelsWith, treeC, treeR, arrayR, decodeArray, readArray}
 use Rattle.spec_trees.specs.Bytes
 use Rattle.spec_trees.specs.Readers
@@ -29,11 +29,8 @@ use Rattle.format.specs.declared.check.Step.the-variants.{On, Labels, Do
 use Rattle.format.specs.Labels.{labelAt}
 use Rattle.format.specs.Head.{lowTwo, headAt, spanAt}
 use Rattle.format.specs.Check.{rootOk, treeOk, arrayOk, labelOk, treesOk, labelsOk, inputOk, checkOf, place, restOk, Onward, Inward, Stepped, BareAt}
-use Rattle.spec_trees.specs.Bytes.{arrayBytes, labelTag, twoLimit}
-use Rattle.spec_trees.specs.Within.{AllBytes, Within}
-use Rattle.spec_trees.specs.OptionLaws.{only-some, map-some, some-equal}
-use Rattle.spec_trees.specs.SizeLaws.{length-array}
-use Rattle.spec_trees.specs.ArrayLaws.{array-back, array-only}
+use Rattle.spec_trees.specs.Bytes.{labelTag, twoLimit}
+use Rattle.spec_trees.specs.OptionLaws.{only-some, map-some}
 use Rattle.spec_trees.specs.ReaderLaws.{tagged-some}
 use Rattle.format.specs.HeadLaws.{some-map, head-found, head-short, head-field, span-nothing, inside-next, inside-bad, inside-nothing, inside-one, inside-end, inside-none, span-none}
 

@@ -14,7 +14,6 @@ use Rattle.spec_trees.specs.Tree.{Tree, bareVoid}
 use Rattle.spec_trees.specs.Bytes.{treeBytes}
 use Rattle.spec_trees.specs.Within.{Allowed, AllowedA}
 use Rattle.areas.specs.Area.{Is, Wrote, IsAt, span}
-use Rattle.areas.specs.declared.span.Span.{Span}
 use Rattle.spec_queries.specs.Query.{Pair}
 use Rattle.spec_queries.specs.Rules.{OkPair, OkPairs}
 use Rattle.queries.specs.Places.{pairsBytes, arrayTrees, HoldsOk}

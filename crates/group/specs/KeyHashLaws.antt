@@ -1,7 +1,7 @@
 -- Laws of a key's number: like trees have equal numbers; and how it is read where the pairs and the tree stand, pair by
 -- pair.
-use mathlib.Core.Path.{_≡_, refl, sym, ap, _∙_}
-use mathlib.Core.List.{List, [], _∷_}
+use mathlib.Core.Path.{_≡_, sym, ap, _∙_}
+use mathlib.Core.List.{List}
 use mathlib.Core.Bool.{true}
 use Prim.Native.Nat.{ℕ}
 use Rattle.spec_trees.specs.Tree.{Tree}

@@ -8,8 +8,7 @@ use native.Mathlib.Numerals.{unary-clauses}
 use lib.ListN.{length}
 use Rattle.spec_trees.specs.Limits.{groupingMax}
 use Rattle.spec_trees.specs.Bytes.{treeBytes}
-use Rattle.areas.specs.Area.{Is, fieldEnd, IsAt, span}
-use Rattle.areas.specs.declared.span.Span.{Span}
+use Rattle.areas.specs.Area.{fieldEnd, IsAt, span}
 use Rattle.format.specs.Stand.{Holds}
 use Rattle.spec_queries.specs.Query.{Pair}
 use Rattle.spec_queries.specs.Bytes.{pairF}

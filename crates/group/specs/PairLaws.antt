@@ -13,7 +13,6 @@ use Rattle.spec_trees.specs.SizeLaws.{list-trees}
 use Rattle.spec_trees.specs.Bytes.{treeBytes}
 use Rattle.spec_trees.specs.Within.{Ok}
 use Rattle.areas.specs.Area.{Is, Wrote, IsAt, span}
-use Rattle.areas.specs.declared.span.Span.{Span}
 use Rattle.areas.specs.AreaLaws.{is-keep, wrote-keep, written}
 use Rattle.format.specs.Stand.{treesBytes, Holds}
 use Rattle.spec_queries.specs.Query.{Pair}

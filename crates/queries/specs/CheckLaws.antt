@@ -1,7 +1,7 @@
 -- The steps of the check, in the terms in which the code meets them, and what an accepted query is.
 use mathlib.Core.Path.{_≡_, refl, sym, ap, subst, _∙_}
 use mathlib.Core.List.{List, [], _∷_}
-use mathlib.Core.Bool.{Bool, true, false, cond, _&&_, _||_, or-true, or-false}
+use mathlib.Core.Bool.{Bool, true, false, _&&_, or-true, or-false}
 use mathlib.Core.Option.{Option, none, some, Option·map}
 use Prim.Native.Nat.{ℕ, zero, suc, _+_, _-_, _*_, _≤_, _<_}
 use native.Mathlib.Numerals.{add-one}
@@ -16,7 +16,7 @@ use Rattle.spec_trees.specs.Lists.{all}
 use Rattle.spec_trees.specs.Limits.{queryMax, pathMax, depthMax, divisorMax}
 use Rattle.spec_trees.specs.Tree.{isLabel}
 use Rattle.spec_trees.specs.Bytes
-use Rattle.spec_trees.specs.Readers.{fields, inside, one, tagged, lowValue, bigValue, accepted, overlong, wellFormed, tested}
+use Rattle.spec_trees.specs.Readers.{fields, inside, one, tagged, lowValue, bigValue, wellFormed, tested}
 use Rattle.spec_trees.specs.Decode.{arrayR}
 use Rattle.areas.specs.declared.span.Span.{Span}
 use Rattle.areas.specs.Area.{span}
@@ -26,14 +26,9 @@ use Rattle.format.specs.declared.check.Check.the-variants.{Accepted, Overlong, 
 use Rattle.format.specs.Head.{headAt, spanAt}
 use Rattle.format.specs.Check.{arrayOk, checkOf}
 use Rattle.format.specs.CheckLaws.{check-some, check-none}
-use Rattle.spec_trees.specs.Within.{AllBytes}
-use Rattle.spec_trees.specs.OptionLaws.{some-equal}
 use Rattle.format.specs.HeadLaws.{head-found, fields-nothing, fields-end, inside-one, span-none}
 use Rattle.spec_queries.specs.Query.{Stage, isPath, isDivisor}
-use Rattle.spec_queries.specs.Bytes.{queryBytes}
 use Rattle.spec_queries.specs.Decode.{pathR, divisorR, queryR, decodeQuery, readQuery}
-use Rattle.spec_queries.specs.Rules.{OkQ}
-use Rattle.spec_queries.specs.QueryLaws.{query-back, query-only}
 use Rattle.queries.specs.Steps.{countIn, stepIn}
 use Rattle.queries.specs.declared.check.Told.{Told}
 use Rattle.queries.specs.declared.check.Told.the-variants.{Good, Fields}

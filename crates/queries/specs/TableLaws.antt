@@ -19,8 +19,6 @@ use Rattle.spec_trees.specs.Decode.{arrayWith, arrayR}
 use Rattle.spec_trees.specs.OptionLaws.{T-and}
 use Rattle.spec_queries.specs.Query.{always, exists, equal, same, negated, both, either, literal, path, listed, test, choice, reduced, datas, keep, place, match, unwind, project, group, lookup}
 use Rattle.spec_queries.specs.Decode.{pathR, pathR⁺, routeR, criterionR, criterionTable, divisorR, dataR, dataTable, itemR, itemTable, pairOf, pairR, pairsR, stageR, stageTable, queryR}
-use Rattle.queries.specs.declared.table.Child.{Child}
-use Rattle.queries.specs.declared.table.Rule.{Rule}
 use Rattle.queries.specs.Table.{child, noTags, range, mayBe, allowed, kinds, kindAt, noChild, arrayChild, stageChild, pathChild, routeChild, givenChild, criterionChild, dataChild, divisorChild, itemChild, pairChild, aggregatesChild, groupingChild, rule, never, rules, ruleAt, ruleBytes}
 use Rattle.queries.specs.Accept.{criterionOk, dataOk, fieldOk, childOk, contentOk, byRule, leaf, nested, deeper, byTable}
 use Rattle.queries.specs.ShapeLaws.{some-only, Takes, Reads, one-ok, two-ok, three-ok, many-ok, none-ok, never-ok}
