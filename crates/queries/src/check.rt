@@ -4,6 +4,7 @@
 use crate::path;
 use crate::table;
 use crate::table::Rule;
+use crate::table::Table;
 use areas::number::two_at;
 use areas::number::wide;
 use areas::span::Span;
@@ -133,7 +134,7 @@ fn next_child(area: &[u8], rule: Rule, count: usize, rest: Span) -> Next
 
 /// The fields inside a field, by its tag, as its rule says: each child in its place, not too many and not too few.
 /// Criteria and data among them may nest `left` deep.
-fn check_inside(area: &[u8], rules: &[u8], field: u8, content: Span, left: usize) -> bool
+fn check_inside(area: &[u8], rules: &Table, field: u8, content: Span, left: usize) -> bool
     requires { ⌜ (content .from ≤ content .to) × (content .to ≤ length (now area)) × (now rules ≡ ruleBytes) ⌝ }
     ensures { λ r. ⌜ r ≡ byRule left field (slice (content .from) (content .to) (now (area .entry))) ⌝ }
 {
@@ -169,7 +170,7 @@ fn check_inside(area: &[u8], rules: &[u8], field: u8, content: Span, left: usize
 
 /// A field that holds fields, by its tag and content, where criteria and data may nest `left` deep. Below a stage, an
 /// item or a pair, which are in no criterion and in no data, all levels are left.
-fn check_field(area: &[u8], rules: &[u8], tag: u8, content: Span, left: usize) -> bool
+fn check_field(area: &[u8], rules: &Table, tag: u8, content: Span, left: usize) -> bool
     requires { ⌜ (content .from ≤ content .to) × (content .to ≤ length (now area)) × (now rules ≡ ruleBytes) × (leaf tag ≡ false) ⌝ }
     ensures { λ r. ⌜ r ≡ fieldOk left (tag, slice (content .from) (content .to) (now (area .entry))) ⌝ }
 {
@@ -181,7 +182,7 @@ fn check_field(area: &[u8], rules: &[u8], tag: u8, content: Span, left: usize) -
 }
 
 /// A criterion by its tag and content: it counts 1, and what it holds nests one level less deep.
-fn check_criterion(area: &[u8], rules: &[u8], tag: u8, content: Span, left: usize) -> bool
+fn check_criterion(area: &[u8], rules: &Table, tag: u8, content: Span, left: usize) -> bool
     requires { ⌜ (content .from ≤ content .to) × (content .to ≤ length (now area)) × (now rules ≡ ruleBytes) × (33 ≤ tag) × (tag ≤ 39) ⌝ }
     ensures { λ r. ⌜ r ≡ criterionOk left (tag, slice (content .from) (content .to) (now (area .entry))) ⌝ }
 {
@@ -193,7 +194,7 @@ fn check_criterion(area: &[u8], rules: &[u8], tag: u8, content: Span, left: usiz
 
 /// Data by their tag and content, lists and choices among them: they count 1, and what they hold nests one level less
 /// deep.
-fn check_data(area: &[u8], rules: &[u8], tag: u8, content: Span, left: usize) -> bool
+fn check_data(area: &[u8], rules: &Table, tag: u8, content: Span, left: usize) -> bool
     requires { ⌜ (content .from ≤ content .to) × (content .to ≤ length (now area)) × (now rules ≡ ruleBytes) × (40 ≤ tag) × (tag ≤ 45) ⌝ }
     ensures { λ r. ⌜ r ≡ dataOk left (tag, slice (content .from) (content .to) (now (area .entry))) ⌝ }
 {
@@ -210,7 +211,7 @@ fn check_query_field(area: &[u8], tag: u8, content: Span) -> bool
 {
     if tag == 16 {
         let rules = table::RULES;
-        check_inside(area, &rules[..], tag, content, Limits::NEST)
+        check_inside(area, &rules, tag, content, Limits::NEST)
     } else {
         false
     }

@@ -42,9 +42,12 @@ const AGGREGATES: u8 = 11;
 
 const GROUPING: u8 = 12;
 
+/// As the table is lent to whoever looks a rule up: by where it stands alone, since its length is known.
+pub type Table = [u8; 260];
+
 /// The table: by tag, the five numbers of its rule. Where the least count is above the greatest, no content passes, not
 /// even an empty one: 0 to 15 belong to trees, 22 to 31 are no tags, a path and a divisor hold no fields.
-pub const RULES: [u8; 260] = [
+pub const RULES: Table = [
     // 0
     NONE,
     NONE,
@@ -361,7 +364,7 @@ pub const RULES: [u8; 260] = [
 
 /// The rule of a tag, from the table, which is lent: the compiler stores a constant anew wherever it is named. A tag that
 /// the table does not have may hold nothing.
-pub fn rule_of(rules: &[u8], tag: u8) -> Rule
+pub fn rule_of(rules: &Table, tag: u8) -> Rule
     requires { ⌜ now rules ≡ ruleBytes ⌝ }
     ensures { λ r. ⌜ r ≡ ruleAt tag ⌝ }
 {

@@ -112,8 +112,7 @@ check-criterion-returns : (t : ℕ) → check-criterion-lts.Need-returns (
   check-inside-below t,
   check-inside.Post,
 ) (check-criterion-at t) check-criterion.Post
-check-criterion-returns t c =
-    sym (criterion-deep (c .before .before .before .args .left) _ (c .if1 .taken))
+check-criterion-returns t c = sym (criterion-deep (c .before .before .args .left) _ (c .if1 .taken))
 
 check-criterion-sub-check-inside : (t : ℕ) → check-criterion-lts.Need-sub-check-inside (
   check-inside-below t,
@@ -133,19 +132,17 @@ check-criterion-returns-2 : (t : ℕ) → check-criterion-lts.Need-returns-2 (
 ) (check-criterion-at t) check-criterion.Post
 check-criterion-returns-2 t c =
     c .check-inside .ensures ∙ sym
-    (criterion-rule (c .before .before .before .before .args .left)
-    (c .before .before .before .before .args .tag)
-    (slice (c .before .before .before .before .args .content .from)
-    (c .before .before .before .before .args .content .to)
-    (now (c .before .before .before .before .args .area)))
-    (c .before .before .before .before .pre .1 .3) (c .before .before .before .before .pre .1 .4)
+    (criterion-rule (c .before .before .before .args .left) (c .before .before .before .args .tag)
+    (slice (c .before .before .before .args .content .from)
+    (c .before .before .before .args .content .to) (now (c .before .before .before .args .area)))
+    (c .before .before .before .pre .1 .3) (c .before .before .before .pre .1 .4)
     (c .before .if1 .left))
 
 check-data-returns : (t : ℕ) → check-data-lts.Need-returns (
   check-inside-below t,
   check-inside.Post,
 ) (check-data-at t) check-data.Post
-check-data-returns t c = sym (data-deep (c .before .before .before .args .left) _ (c .if1 .taken))
+check-data-returns t c = sym (data-deep (c .before .before .args .left) _ (c .if1 .taken))
 
 check-data-sub-check-inside : (t : ℕ) → check-data-lts.Need-sub-check-inside (
   check-inside-below t,
@@ -165,12 +162,10 @@ check-data-returns-2 : (t : ℕ) → check-data-lts.Need-returns-2 (
 ) (check-data-at t) check-data.Post
 check-data-returns-2 t c =
     c .check-inside .ensures ∙ sym
-    (data-rule (c .before .before .before .before .args .left)
-    (c .before .before .before .before .args .tag)
-    (slice (c .before .before .before .before .args .content .from)
-    (c .before .before .before .before .args .content .to)
-    (now (c .before .before .before .before .args .area)))
-    (c .before .before .before .before .pre .1 .3) (c .before .before .before .before .pre .1 .4)
+    (data-rule (c .before .before .before .args .left) (c .before .before .before .args .tag)
+    (slice (c .before .before .before .args .content .from)
+    (c .before .before .before .args .content .to) (now (c .before .before .before .args .area)))
+    (c .before .before .before .pre .1 .3) (c .before .before .before .pre .1 .4)
     (c .before .if1 .left))
 
 check-field-check-criterion-requires : (t : ℕ) → check-field-lts.Need-check-criterion-requires (
@@ -213,11 +208,11 @@ check-field-returns : (t : ℕ) → check-field-lts.Need-returns (
 ) (check-field-at t) check-field.Post
 check-field-returns t c =
     c .check-criterion .ensures ∙ sym
-    (criterion-field (c .before .before .before .before .before .args .left)
-    (c .before .before .before .before .before .args .tag)
-    (slice (c .before .before .before .before .before .args .content .from)
-    (c .before .before .before .before .before .args .content .to)
-    (now (c .before .before .before .before .before .args .area))) (omega arith) (omega arith))
+    (criterion-field (c .before .before .before .before .args .left)
+    (c .before .before .before .before .args .tag)
+    (slice (c .before .before .before .before .args .content .from)
+    (c .before .before .before .before .args .content .to)
+    (now (c .before .before .before .before .args .area))) (omega arith) (omega arith))
 
 check-field-returns-2 : (t : ℕ) → check-field-lts.Need-returns-2 (
   check-criterion-below t,
@@ -229,12 +224,11 @@ check-field-returns-2 : (t : ℕ) → check-field-lts.Need-returns-2 (
 ) (check-field-at t) check-field.Post
 check-field-returns-2 t c =
     c .check-data .ensures ∙ sym
-    (data-field (c .before .before .before .before .before .before .args .left)
-    (c .before .before .before .before .before .before .args .tag)
-    (slice (c .before .before .before .before .before .before .args .content .from)
-    (c .before .before .before .before .before .before .args .content .to)
-    (now (c .before .before .before .before .before .before .args .area))) (omega arith)
-    (omega arith))
+    (data-field (c .before .before .before .before .before .args .left)
+    (c .before .before .before .before .before .args .tag)
+    (slice (c .before .before .before .before .before .args .content .from)
+    (c .before .before .before .before .before .args .content .to)
+    (now (c .before .before .before .before .before .args .area))) (omega arith) (omega arith))
 
 check-field-returns-3 : (t : ℕ) → check-field-lts.Need-returns-3 (
   check-criterion-below t,
@@ -246,12 +240,10 @@ check-field-returns-3 : (t : ℕ) → check-field-lts.Need-returns-3 (
 ) (check-field-at t) check-field.Post
 check-field-returns-3 t c =
     c .check-inside .ensures ∙ sym
-    (other-rule (c .before .before .before .before .args .left)
-    (c .before .before .before .before .args .tag)
-    (slice (c .before .before .before .before .args .content .from)
-    (c .before .before .before .before .args .content .to)
-    (now (c .before .before .before .before .args .area)))
-    (c .before .before .before .before .pre .1 .3)
+    (other-rule (c .before .before .before .args .left) (c .before .before .before .args .tag)
+    (slice (c .before .before .before .args .content .from)
+    (c .before .before .before .args .content .to) (now (c .before .before .before .args .area)))
+    (c .before .before .before .pre .1 .3)
     (⊎-elim (λ w. inl (omega arith)) (λ w. inr (omega arith)) (c .before .if1 .came)))
 
 abbrev check-inside-Inv-loop : check-inside-lts.InvT-loop
@@ -286,12 +278,11 @@ check-inside-loop-holds : (t : ℕ) → check-inside-lts.Need-loop-holds (
 ) (check-inside-at t) check-inside.Post check-inside-Inv-loop check-inside-μ-loop
 check-inside-loop-holds t c = (
   omega arith,
-  c .before .before .before .pre .1 .0,
+  c .before .before .pre .1 .0,
   omega arith,
-  ap (λ (x : Rule). contentOk (fieldOk (c .before .before .before .args .left)) x 0
-      (slice (c .before .before .before .args .content .from)
-      (c .before .before .before .args .content .to) (now (c .before .before .before .args .area))))
-      (c .rule-of .ensures),
+  ap (λ (x : Rule). contentOk (fieldOk (c .before .before .args .left)) x 0
+      (slice (c .before .before .args .content .from) (c .before .before .args .content .to)
+      (now (c .before .before .args .area)))) (c .rule-of .ensures),
 )
 
 check-inside-next-child-requires : (t : ℕ) → check-inside-lts.Need-next-child-requires (
@@ -331,9 +322,9 @@ check-inside-add-count : (t : ℕ) → check-inside-lts.Need-add-count (
 check-inside-add-count t c =
     let f = (is-behind (c .before .before .before .before .before .before .rule-of .result)
     (c .before .before .before .before .before .loop .count)
-    (now (c .before .before .before .before .before .before .before .before .before .args .area))
+    (now (c .before .before .before .before .before .before .before .before .args .area))
     (span (c .before .before .before .before .before .loop .at)
-    (c .before .before .before .before .before .before .before .before .before .args .content .to))
+    (c .before .before .before .before .before .before .before .before .args .content .to))
     (c .before .before .before .next-child .ensures) (c .before .n .given .1)) in
     omega (arith, c .before .before .before .before .before .loop .inv)
 
@@ -350,9 +341,9 @@ check-inside-loop-less : (t : ℕ) → check-inside-lts.Need-loop-less (
 check-inside-loop-less t c =
     let f = (is-behind (c .before .before .before .before .before .before .rule-of .result)
     (c .before .before .before .before .before .loop .count)
-    (now (c .before .before .before .before .before .before .before .before .before .args .area))
+    (now (c .before .before .before .before .before .before .before .before .args .area))
     (span (c .before .before .before .before .before .loop .at)
-    (c .before .before .before .before .before .before .before .before .before .args .content .to))
+    (c .before .before .before .before .before .before .before .before .args .content .to))
     (c .before .before .before .next-child .ensures) (c .before .n .given .1)) in search needs
 
 check-inside-loop-again : (t : ℕ) → check-inside-lts.Need-loop-again (
@@ -368,17 +359,17 @@ check-inside-loop-again : (t : ℕ) → check-inside-lts.Need-loop-again (
 check-inside-loop-again t c =
     let f = (is-behind (c .before .before .before .before .before .before .rule-of .result)
     (c .before .before .before .before .before .loop .count)
-    (now (c .before .before .before .before .before .before .before .before .before .args .area))
+    (now (c .before .before .before .before .before .before .before .before .args .area))
     (span (c .before .before .before .before .before .loop .at)
-    (c .before .before .before .before .before .before .before .before .before .args .content .to))
+    (c .before .before .before .before .before .before .before .before .args .content .to))
     (c .before .before .before .next-child .ensures) (c .before .n .given .1)) in (
       omega (arith, f, c .before .before .before .before .before .loop .inv),
       f .within,
       omega
           (arith, f, c .before .before .before .before .before .loop .inv),
       sym
-          (f .same (c .before .before .before .before .before .before .before .before .before .args .left))
-          ∙ c .before .before .before .before .before .loop .inv .3,
+          (f .same (c .before .before .before .before .before .before .before .before .args .left)) ∙
+          c .before .before .before .before .before .loop .inv .3,
     )
 
 check-inside-enum-known-n-2 : (t : ℕ) → check-inside-lts.Need-enum-known-n-2 (
@@ -406,9 +397,9 @@ check-inside-check-field-requires : (t : ℕ) → check-inside-lts.Need-check-fi
 check-inside-check-field-requires t c κs =
     let f = (is-inside (c .before .before .before .before .before .before .rule-of .result)
     (c .before .before .before .before .before .loop .count)
-    (now (c .before .before .before .before .before .before .before .before .before .args .area))
+    (now (c .before .before .before .before .before .before .before .before .args .area))
     (span (c .before .before .before .before .before .loop .at)
-    (c .before .before .before .before .before .before .before .before .before .args .content .to))
+    (c .before .before .before .before .before .before .before .before .args .content .to))
     (c .before .before .before .next-child .ensures) (c .before .n2 .given .1)) in search needs
 
 check-inside-add-count-2 : (t : ℕ) → check-inside-lts.Need-add-count-2 (
@@ -424,9 +415,9 @@ check-inside-add-count-2 : (t : ℕ) → check-inside-lts.Need-add-count-2 (
 check-inside-add-count-2 t c =
     let f = (is-inside (c .before .before .before .before .before .before .before .before .rule-of .result)
     (c .before .before .before .before .before .before .before .loop .count)
-    (now (c .before .before .before .before .before .before .before .before .before .before .before .args .area))
+    (now (c .before .before .before .before .before .before .before .before .before .before .args .area))
     (span (c .before .before .before .before .before .before .before .loop .at)
-    (c .before .before .before .before .before .before .before .before .before .before .before .args .content .to))
+    (c .before .before .before .before .before .before .before .before .before .before .args .content .to))
     (c .before .before .before .before .before .next-child .ensures)
     (c .before .before .before .n2 .given .1)) in
     omega (arith, c .before .before .before .before .before .before .before .loop .inv)
@@ -444,9 +435,9 @@ check-inside-loop-less-2 : (t : ℕ) → check-inside-lts.Need-loop-less-2 (
 check-inside-loop-less-2 t c =
     let f = (is-inside (c .before .before .before .before .before .before .before .before .rule-of .result)
     (c .before .before .before .before .before .before .before .loop .count)
-    (now (c .before .before .before .before .before .before .before .before .before .before .before .args .area))
+    (now (c .before .before .before .before .before .before .before .before .before .before .args .area))
     (span (c .before .before .before .before .before .before .before .loop .at)
-    (c .before .before .before .before .before .before .before .before .before .before .before .args .content .to))
+    (c .before .before .before .before .before .before .before .before .before .before .args .content .to))
     (c .before .before .before .before .before .next-child .ensures)
     (c .before .before .before .n2 .given .1)) in search needs
 
@@ -463,9 +454,9 @@ check-inside-loop-again-2 : (t : ℕ) → check-inside-lts.Need-loop-again-2 (
 check-inside-loop-again-2 t c =
     let f = (is-inside (c .before .before .before .before .before .before .before .before .rule-of .result)
     (c .before .before .before .before .before .before .before .loop .count)
-    (now (c .before .before .before .before .before .before .before .before .before .before .before .args .area))
+    (now (c .before .before .before .before .before .before .before .before .before .before .args .area))
     (span (c .before .before .before .before .before .before .before .loop .at)
-    (c .before .before .before .before .before .before .before .before .before .before .before .args .content .to))
+    (c .before .before .before .before .before .before .before .before .before .before .args .content .to))
     (c .before .before .before .before .before .next-child .ensures)
     (c .before .before .before .n2 .given .1)) in (
       omega (arith, f, c .before .before .before .before .before .before .before .loop .inv),
@@ -476,7 +467,7 @@ check-inside-loop-again-2 t c =
         c .before .before .before .before .before .before .before .loop .inv,
       ),
       sym
-          (held-good f (c .before .before .before .before .before .before .before .before .before .before .before .args .left)
+          (held-good f (c .before .before .before .before .before .before .before .before .before .before .args .left)
           (sym (c .before .check-field .ensures) ∙ c .if1 .taken)) ∙
           c .before .before .before .before .before .before .before .loop .inv .3,
     )
@@ -494,12 +485,12 @@ check-inside-returns : (t : ℕ) → check-inside-lts.Need-returns (
 check-inside-returns t c =
     let f = (is-inside (c .before .before .before .before .before .before .before .before .rule-of .result)
     (c .before .before .before .before .before .before .before .loop .count)
-    (now (c .before .before .before .before .before .before .before .before .before .before .before .args .area))
+    (now (c .before .before .before .before .before .before .before .before .before .before .args .area))
     (span (c .before .before .before .before .before .before .before .loop .at)
-    (c .before .before .before .before .before .before .before .before .before .before .before .args .content .to))
+    (c .before .before .before .before .before .before .before .before .before .before .args .content .to))
     (c .before .before .before .before .before .next-child .ensures)
     (c .before .before .before .n2 .given .1)) in
-    sym (held-bad f (c .before .before .before .before .before .before .before .before .before .before .before .args .left)
+    sym (held-bad f (c .before .before .before .before .before .before .before .before .before .before .args .left)
     (sym (c .before .check-field .ensures) ∙ c .if1 .left)) ∙
     c .before .before .before .before .before .before .before .loop .inv .3
 
@@ -528,11 +519,11 @@ check-inside-returns-2 : (t : ℕ) → check-inside-lts.Need-returns-2 (
 check-inside-returns-2 t c =
     sym (is-bad (c .before .before .before .before .before .rule-of .result)
     (c .before .before .before .before .loop .count)
-    (now (c .before .before .before .before .before .before .before .before .args .area))
+    (now (c .before .before .before .before .before .before .before .args .area))
     (span (c .before .before .before .before .loop .at)
-    (c .before .before .before .before .before .before .before .before .args .content .to))
+    (c .before .before .before .before .before .before .before .args .content .to))
     (c .before .before .next-child .ensures) (c .enum-told .given .1)
-    (c .before .before .before .before .before .before .before .before .args .left)) ∙
+    (c .before .before .before .before .before .before .before .args .left)) ∙
     c .before .before .before .before .loop .inv .3
 
 check-inside-wide-requires : (t : ℕ) → check-inside-lts.Need-wide-requires (
@@ -559,11 +550,10 @@ check-inside-returns-3 : (t : ℕ) → check-inside-lts.Need-returns-3 (
 ) (check-inside-at t) check-inside.Post check-inside-Inv-loop check-inside-μ-loop
 check-inside-returns-3 t c =
     ap (λ (m : ℕ). leb m (c .before .before .loop .count)) (c .wide .ensures .0)
-    ∙ (sym (children-end (now (c .before .before .before .before .before .before .args .area))
-    (c .before .before .loop .at)
-    (c .before .before .before .before .before .before .args .content .to)
-    (c .before .before .before .before .before .before .pre .1 .1)
-    (fieldOk (c .before .before .before .before .before .before .args .left))
+    ∙ (sym (children-end (now (c .before .before .before .before .before .args .area))
+    (c .before .before .loop .at) (c .before .before .before .before .before .args .content .to)
+    (c .before .before .before .before .before .pre .1 .1)
+    (fieldOk (c .before .before .before .before .before .args .left))
     (c .before .before .before .rule-of .result) (c .before .before .loop .count) (omega arith)
     (omega arith)) ∙ c .before .before .loop .inv .3)
 

@@ -12,9 +12,6 @@ use Rattle.queries.proofs.check.check_query_field.Reads as reads
 use Rattle.queries.proofs.check.check_query_field.Lts as lts
 use Rattle.queries.proofs.check.check_inside.Reads as check-inside-reads
 
-slice-aggregate-check-inside : tie.Need-slice-aggregate-check-inside
-slice-aggregate-check-inside c = search needs
-
 check-inside-requires : tie.Need-check-inside-requires
 check-inside-requires c κs = search needs
 
@@ -33,5 +30,4 @@ returns-2 : tie.Need-returns-2
 returns-2 c = sym (query-tag (c .before .before .args .tag) _ (c .if1 .left))
 
 pub check-query-field-spec : {M : Type 1} → statement M
-check-query-field-spec =
-    tie.close (tie.spec slice-aggregate-check-inside check-inside-requires returns returns-2)
+check-query-field-spec = tie.close (tie.spec check-inside-requires returns returns-2)

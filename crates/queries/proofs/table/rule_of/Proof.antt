@@ -1,10 +1,9 @@
 -- Made from Proof.ans by answers.py, which overwrites this file: edit Proof.ans.
-use denote.Ref.{now}
 use native.Mathlib.Omega.{arith}
 use mathlib.Core.Path.{_≡_, sym, ap, _∙_}
 use mathlib.Core.List.{List}
 use Prim.Native.Nat.{ℕ, _+_, _*_}
-use lib.ListN.{getD, length}
+use lib.ListN.{getD}
 use Rattle.queries.specs.Table.{rule}
 use Rattle.queries.specs.TableLaws.{rule-row, rule-out}
 use borrow.Author.Needs.{needs}
@@ -19,42 +18,32 @@ returns c = sym (rule-out (c .before .args .tag) (omega arith))
 mul-i : tie.Need-mul-i
 mul-i c = search needs
 
-shared-slice-read-t7 : tie.Need-shared-slice-read-t7
-shared-slice-read-t7 c =
-    let n : length (now (c .before .before .args .rules)) ≡ 260 = ap length
-    (c .before .before .pre) in omega (arith, n)
+element-copy-out-t8 : tie.Need-element-copy-out-t8
+element-copy-out-t8 c = search needs
 
 add-t5 : tie.Need-add-t5
 add-t5 c = search needs
 
-shared-slice-read-t9 : tie.Need-shared-slice-read-t9
-shared-slice-read-t9 c =
-    let n : length (now (c .before .before .before .args .rules)) ≡ 260 = ap length
-    (c .before .before .before .pre) in omega (arith, n)
+element-copy-out-t11 : tie.Need-element-copy-out-t11
+element-copy-out-t11 c = search needs
 
-add-t10 : tie.Need-add-t10
-add-t10 c = search needs
+add-t12 : tie.Need-add-t12
+add-t12 c = search needs
 
-shared-slice-read-t12 : tie.Need-shared-slice-read-t12
-shared-slice-read-t12 c =
-    let n : length (now (c .before .before .before .before .args .rules)) ≡ 260 = ap length
-    (c .before .before .before .before .pre) in omega (arith, n)
-
-add-t13 : tie.Need-add-t13
-add-t13 c = search needs
-
-shared-slice-read-t15 : tie.Need-shared-slice-read-t15
-shared-slice-read-t15 c =
-    let n : length (now (c .before .before .before .before .before .args .rules)) ≡ 260 = ap length
-    (c .before .before .before .before .before .pre) in omega (arith, n)
+element-copy-out-t15 : tie.Need-element-copy-out-t15
+element-copy-out-t15 c = search needs
 
 add-t16 : tie.Need-add-t16
 add-t16 c = search needs
 
-shared-slice-read-t18 : tie.Need-shared-slice-read-t18
-shared-slice-read-t18 c =
-    let n : length (now (c .before .before .before .before .before .before .args .rules)) ≡ 260 =
-    ap length (c .before .before .before .before .before .before .pre) in omega (arith, n)
+element-copy-out-t19 : tie.Need-element-copy-out-t19
+element-copy-out-t19 c = search needs
+
+add-t20 : tie.Need-add-t20
+add-t20 c = search needs
+
+element-copy-out-t23 : tie.Need-element-copy-out-t23
+element-copy-out-t23 c = search needs
 
 returns-2 : tie.Need-returns-2
 returns-2 c =
@@ -73,13 +62,13 @@ rule-of-spec =
     (tie.spec
     returns
     mul-i
-    shared-slice-read-t7
+    element-copy-out-t8
     add-t5
-    shared-slice-read-t9
-    add-t10
-    shared-slice-read-t12
-    add-t13
-    shared-slice-read-t15
+    element-copy-out-t11
+    add-t12
+    element-copy-out-t15
     add-t16
-    shared-slice-read-t18
+    element-copy-out-t19
+    add-t20
+    element-copy-out-t23
     returns-2)
