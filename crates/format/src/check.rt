@@ -100,7 +100,8 @@ fn check_rest(area: &[u8], trees: Span, end: usize, left: usize) -> bool
                     from: labels.from,
                     to: labels.from,
                 };
-                if check_rest(area, none, labels.to, left - 1) {
+                // A new slice: one handed on is copied whole right behind two half stores, and the processor waits.
+                if check_rest(&area[..], none, labels.to, left - 1) {
                     p.at = labels.to;
                 } else {
                     return false;
