@@ -133,6 +133,10 @@ module _ {t v : List ℕ} {te n : ℕ} {o : Out} (h : CollectReady t te (Len n))
   pub appended-end : {e : ℕ} → o ≡ At e → base t ≤ e
   appended-end {e} z = omega (arith, k .fits e z .ends)
 
+  -- so two bytes hold the number
+  pub appended-short : {e : ℕ} → o ≡ At e → e - base t ≤ treesMax
+  appended-short {e} z = omega (arith, k .fits e z .room)
+
   pub appended : {e : ℕ} → o ≡ At e → Collected t v te (Len n) (Len (e - base t))
   unfolding Collects
   appended {e} z = record {

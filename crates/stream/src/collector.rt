@@ -9,9 +9,10 @@ use areas::area::copy;
 use areas::span::Span;
 
 /// What the collector holds: so many bytes; more than an array may have; or that a tree was too large, which ends the
-/// run.
+/// run. The number has two bytes: eight would bring seven of padding, copied in overlapping pieces, for which a
+/// processor waits.
 pub enum Collector {
-    Len(usize),
+    Len(u16),
     Over,
     Large,
 }
@@ -41,7 +42,7 @@ fn append(tail: &mut [u8], end: usize, len: usize) -> Collector
     let Out::At(e) = out else {
         return Collector::Over;
     };
-    Collector::Len(e - base)
+    Collector::Len((e - base) as u16)
 }
 
 /// Gives the tree at the front of the tail, up to `end`, to the collector. That an array got too long is only noted: it
@@ -51,7 +52,7 @@ pub fn collect(tail: &mut [u8], end: usize, collector: Collector) -> Collector
     ensures { λ r. ⌜ Collected (now (tail .entry)) (now (tail .exit)) end collector r ⌝ }
 {
     match collector {
-        Collector::Len(n) => append(tail, end, n),
+        Collector::Len(n) => append(tail, end, n as usize),
         Collector::Over => Collector::Over,
         Collector::Large => Collector::Large,
     }

@@ -88,7 +88,7 @@ pub fn first<'a>(
             to: base + Map::TREES,
         };
         copy_in(work, &input[3..], room);
-        return Collector::Len(input.len() - 3);
+        return Collector::Len((input.len() - 3) as u16);
     }
     feed_trees(input, work, query, stages, joined)
 }

@@ -14,7 +14,7 @@ pub fn last(collector: Collector) -> Ended
     ensures { λ r. ⌜ LastPost collector r ⌝ }
 {
     match collector {
-        Collector::Len(n) => Ended::Held(n),
+        Collector::Len(n) => Ended::Held(n as usize),
         Collector::Over => Ended::Full,
         Collector::Large => Ended::Large,
     }
@@ -58,7 +58,7 @@ pub fn later<'a>(
         };
         match held {
             Collector::Len(n) => {
-                held = next_stretch(work, n, query, at, joined);
+                held = next_stretch(work, n as usize, query, at, joined);
                 rest = at.next;
             }
             Collector::Over => return Ended::Long,

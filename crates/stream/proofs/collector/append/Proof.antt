@@ -47,6 +47,16 @@ sub-t8 c =
     (c .before .before .before .before .before .copy .kept .0)
     (c .before .before .before .before .before .copy .ensures) (c .before .out .given .1)
 
+cast-t13 : tie.Need-cast-t13
+cast-t13 c =
+    omega (
+      arith,
+      law.appended-short
+          (c .before .before .before .before .before .before .before .before .pre)
+          (c .before .before .before .before .before .copy .kept .0)
+          (c .before .before .before .before .before .copy .ensures) (c .before .out .given .1),
+    )
+
 same-length-2 : tie.Need-same-length-2
 same-length-2 c = search needs
 
@@ -69,5 +79,6 @@ append-spec =
     same-length
     returns
     sub-t8
+    cast-t13
     same-length-2
     returns-2)

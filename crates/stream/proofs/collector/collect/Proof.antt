@@ -10,6 +10,9 @@ use Rattle.stream.proofs.collector.append.Reads as append-reads
 enum-known-collector : tie.Need-enum-known-collector
 enum-known-collector c = search needs
 
+cast-append : tie.Need-cast-append
+cast-append c = search needs
+
 append-requires : tie.Need-append-requires
 append-requires c κs =
     law.collect-by (c .before .before .collector .given .1)
@@ -46,6 +49,7 @@ collect-spec =
     tie.close
     (tie.spec
     enum-known-collector
+    cast-append
     append-requires
     enum-told
     enum-told-2

@@ -33,6 +33,9 @@ copy-in-requires c κs = search needs
 sub-t16 : tie.Need-sub-t16
 sub-t16 c = search needs
 
+cast-t17 : tie.Need-cast-t17
+cast-t17 c = search needs
+
 same-length : tie.Need-same-length
 same-length c = search needs
 
@@ -64,6 +67,7 @@ first-spec =
     part-copy-in-end
     copy-in-requires
     sub-t16
+    cast-t17
     same-length
     returns
     feed-trees-requires

@@ -9,6 +9,9 @@ use Rattle.stretches.proofs.later.last.Lts as lts
 enum-known-collector : tie.Need-enum-known-collector
 enum-known-collector c = search needs
 
+cast-t4 : tie.Need-cast-t4
+cast-t4 c = search needs
+
 enum-told : tie.Need-enum-told
 enum-told c = search needs
 
@@ -26,4 +29,5 @@ returns-3 c = last-large (c .enum-told2 .given .1)
 
 pub last-spec : {M : Type 1} → statement M
 last-spec =
-    tie.close (tie.spec enum-known-collector enum-told enum-told-2 returns returns-2 returns-3)
+    tie.close
+    (tie.spec enum-known-collector cast-t4 enum-told enum-told-2 returns returns-2 returns-3)

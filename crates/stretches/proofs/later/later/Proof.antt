@@ -62,6 +62,9 @@ returns c =
 enum-known-held : tie.Need-enum-known-held Inv-loop μ-loop
 enum-known-held c = search needs
 
+cast-next-stretch : tie.Need-cast-next-stretch Inv-loop μ-loop
+cast-next-stretch c = search needs
+
 next-stretch-requires : tie.Need-next-stretch-requires Inv-loop μ-loop
 next-stretch-requires c κs =
     later-held (c .before .before .before .before .before .before .before .next-group .ensures)
@@ -140,6 +143,7 @@ later-spec =
     same-length
     returns
     enum-known-held
+    cast-next-stretch
     next-stretch-requires
     loop-less
     loop-again
