@@ -1,7 +1,7 @@
 -- Laws of entering all trees: none at first, one after another.
 use mathlib.Core.Path.{_≡_, refl, sym, ap, ap₂, subst, _∙_}
 use mathlib.Core.List.{List, [], _∷_, _++_, append-nil, append-assoc}
-use Prim.Native.Nat.{ℕ, _+_, _*_, _≤_, _<_}
+use Prim.Native.Nat.{ℕ, _+_, _*_, _-_, _≤_, _<_}
 use native.Mathlib.Omega.{arith}
 use lib.ListN.{length, take, drop, getD, replicate, getD-replicate, List·getD-append, length-drop, length-replicate}
 use lib.Seq.{getD-append-add, length-take-le, drop-at, drop-append-add, drop-drop}
@@ -21,36 +21,39 @@ use Rattle.spec_queries.specs.Query.{Pair}
 use Rattle.paths.specs.ComparedLaws.{is-none}
 use Rattle.arrange.specs.Links.{spots, passing, offset, firstOf}
 use Rattle.spec_stages.specs.Classes.{scan}
-use Rattle.arrange.specs.Index.{base, Index, Entering, Collected}
+use Rattle.arrange.specs.Index.{base, headsAt, slots, Index, Entering, Collected}
 use Rattle.arrange.specs.Entering.{Enters, Cleared}
 
--- ---- the heads are cleared: a part of the area came back as zeros
-module _ (w y : List ℕ) (l : length w ≡ workMin) (z : y ≡ replicate (length (take 5464 (drop 38228 w))) 0) where
+-- ---- the heads and the counts are cleared: a part of the area came back as zeros
+abbrev indexTop : ℕ
+indexTop = base - headsAt
+
+module _ (w y : List ℕ) (l : length w ≡ workMin) (z : y ≡ replicate (length (take indexTop (drop headsAt w))) 0) where
   abbrev whole : List ℕ
-  whole = take 38228 w ++ (y ++ drop 5464 (drop 38228 w))
+  whole = take headsAt w ++ (y ++ drop indexTop (drop headsAt w))
 
-  front : length (take 38228 w) ≡ 38228
-  front = length-take-le 38228 w (omega arith)
+  front : length (take headsAt w) ≡ headsAt
+  front = length-take-le headsAt w (omega arith)
 
-  zeros : length y ≡ 5464
-  zeros = ap length z ∙ length-replicate (length (take 5464 (drop 38228 w))) 0 ∙ length-take-le 5464 (drop 38228 w) (omega (arith, length-drop 38228 w))
+  zeros : length y ≡ indexTop
+  zeros = ap length z ∙ length-replicate (length (take indexTop (drop headsAt w))) 0 ∙ length-take-le indexTop (drop headsAt w) (omega (arith, length-drop headsAt w))
 
-  zero-byte : (i : ℕ) → i < 5464 → getD whole (38228 + i) 0 ≡ 0
+  zero-byte : (i : ℕ) → i < indexTop → getD whole (headsAt + i) 0 ≡ 0
   zero-byte i b =
-      ap (λ n. getD whole (n + i) 0) (sym front) ∙ getD-append-add (take 38228 w) (y ++ drop 5464 (drop 38228 w)) i 0
-      ∙ List·getD-append y (drop 5464 (drop 38228 w)) 0 i (omega (arith, zeros))
-      ∙ ap (λ s. getD s i 0) z ∙ getD-replicate (length (take 5464 (drop 38228 w))) i 0 0 (omega (arith, length-take-le 5464 (drop 38228 w) (omega (arith, length-drop 38228 w))))
+      ap (λ n. getD whole (n + i) 0) (sym front) ∙ getD-append-add (take headsAt w) (y ++ drop indexTop (drop headsAt w)) i 0
+      ∙ List·getD-append y (drop indexTop (drop headsAt w)) 0 i (omega (arith, zeros))
+      ∙ ap (λ s. getD s i 0) z ∙ getD-replicate (length (take indexTop (drop headsAt w))) i 0 0 (omega (arith, length-take-le indexTop (drop headsAt w) (omega (arith, length-drop headsAt w))))
 
-  zero-two : (i : ℕ) → i + 1 < 5464 → twoAt whole (38228 + i) ≡ 0
+  zero-two : (i : ℕ) → i + 1 < indexTop → twoAt whole (headsAt + i) ≡ 0
   zero-two i b = ap₂ (λ i j. i * 256 + j) (zero-byte i (omega arith)) (ap (λ j. getD whole j 0) (omega arith) ∙ zero-byte (i + 1) (omega arith))
 
   pub heads-cleared : Cleared w whole
   heads-cleared = record {
     blank = λ h b. zero-two (2 * h) (omega arith);
-    uncounted = λ m b. ap (twoAt whole) (omega arith) ∙ zero-two (4096 + 2 * m) (omega arith);
+    uncounted = λ m b. ap (twoAt whole) (omega arith) ∙ zero-two (2 * slots + 2 * m) (omega arith);
     beyond =
-        ap (λ n. drop (n + 5464) whole) (sym front) ∙ drop-append-add (take 38228 w) (y ++ drop 5464 (drop 38228 w)) 5464
-        ∙ drop-at y (drop 5464 (drop 38228 w)) 5464 zeros ∙ drop-drop 5464 38228 w;
+        ap (λ n. drop (n + indexTop) whole) (sym front) ∙ drop-append-add (take headsAt w) (y ++ drop indexTop (drop headsAt w)) indexTop
+        ∙ drop-at y (drop indexTop (drop headsAt w)) indexTop zeros ∙ drop-drop indexTop headsAt w;
   }
 
 -- ---- no tree is entered

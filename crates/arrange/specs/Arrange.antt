@@ -18,10 +18,10 @@ use Rattle.spec_stages.specs.Group.{Class, grouped}
 use Rattle.spec_stages.specs.Classes.{scan}
 use Rattle.spec_stages.specs.Flat.{members, flat}
 use Rattle.group.specs.Keys.{FewPairs}
-use Rattle.stream.specs.Map.{treesMax}
+use Rattle.stream.specs.Map.{treesMax, frontPart}
 use Rattle.arrange.specs.declared.arrange.Filled.{Filled}
 use Rattle.arrange.specs.Links.{Spot, elements, up, Walk}
-use Rattle.arrange.specs.Index.{base, nextAt, Index, Collected}
+use Rattle.arrange.specs.Index.{numbersAt, base, nextAt, Index, Collected}
 use Rattle.arrange.specs.Entering.{Stood}
 
 -- ---- trees with their numbers
@@ -40,12 +40,9 @@ treesOf ms = map (λ m. m .1) ms
 unfoldable pub numberBytes : List (ℕ × Tree) → List ℕ
 numberBytes ms = gather (λ m. twoBytes (m .0)) ms
 
--- where the numbers stand, and what stands behind them: the index, and the collected trees
-abbrev pub numbersAt : ℕ
-numbersAt = 16384
-
+-- what stands behind the numbers: the index, and the collected trees
 abbrev pub indexAt : ℕ
-indexAt = 21844
+indexAt = frontPart
 
 -- ---- the front: these trees stand there, and their numbers
 pub record Front (w : List ℕ) (f : Filled) (ms : List (ℕ × Tree)) : Type 0 where

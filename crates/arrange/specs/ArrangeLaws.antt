@@ -28,9 +28,9 @@ use Rattle.spec_stages.specs.GroupedLaws.{flat-size}
 use Rattle.group.specs.Keys.{FewPairs}
 use Rattle.stream.specs.Map.{treesMax}
 use Rattle.arrange.specs.declared.arrange.Filled.{Filled}
-use Rattle.arrange.specs.Index.{base, Index, Collected}
+use Rattle.arrange.specs.Index.{numbersAt, base, Index, Collected}
 use Rattle.arrange.specs.Entering.{EntersAll}
-use Rattle.arrange.specs.Arrange.{arranged, treesOf, numberBytes, numbersAt, indexAt, Front, Grows, Subset, SubsetArranged, Arranged}
+use Rattle.arrange.specs.Arrange.{arranged, treesOf, numberBytes, indexAt, Front, Grows, Subset, SubsetArranged, Arranged}
 use Rattle.arrange.specs.KeptLaws.{index-kept}
 use Rattle.arrange.specs.FrontLaws.{length-both, arranged-trees, arranged-both, grows-none, grows-then}
 

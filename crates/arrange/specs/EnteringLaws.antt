@@ -28,7 +28,7 @@ use Rattle.arrange.specs.LinksLaws.{first-step}
 use Rattle.arrange.specs.EnterLaws.{apart-found, rising-left}
 use Rattle.arrange.specs.SpotsLaws.{spots-append, spots-elements, first-unseen}
 use Rattle.arrange.specs.IndexLaws.{rising-below, spots-entered}
-use Rattle.arrange.specs.Index.{base, backAt, nextAt, markAt, slots, headAt, countAt, sizeOf, standing, slot, mark, Marks, Index, Entering}
+use Rattle.arrange.specs.Index.{base, backAt, nextAt, markAt, slots, headsAt, headAt, countsAt, countAt, sizeOf, standing, slot, mark, Marks, Index, Entering}
 use Rattle.arrange.specs.Entering.{lastLike, Stood, StoredIf, Linked, Counted, Enters}
 use Rattle.areas.specs.NumberLaws.{Put, put}
 use Rattle.arrange.specs.StandingLaws.{six, all-stood}
@@ -128,7 +128,7 @@ module _ {w q : List ℕ} {keysAt treeAt : Span} (e : Entering w q keysAt treeAt
   yl : (y ≢ 0 → base ≤ y) × (y + 6 ≤ x)
   yl = like-places e ys
 
-  head-places : (38228 ≤ h) × (h + 2 ≤ 42324)
+  head-places : (headsAt ≤ h) × (h + 2 ≤ countsAt)
   head-places = let l = slot-below gs (e .tree) in (omega arith, omega arith)
 
   mark-is : m ≡ mark (sum (key gs (e .tree))) (unlike gs (e .seen) (e .tree))
@@ -150,7 +150,7 @@ module _ {w q : List ℕ} {keysAt treeAt : Span} (e : Entering w q keysAt treeAt
 
   -- one class more, if the tree begins one
   module _ {v : List ℕ} (p6 : Counted w5 v m) where
-    uncounted : (b : ℕ) → b + 2 ≤ 42324 → twoAt v b ≡ twoAt w5 b
+    uncounted : (b : ℕ) → b + 2 ≤ countsAt → twoAt v b ≡ twoAt w5 b
     uncounted b l = p6 .others b (λ n. inl (omega arith))
 
     counted : (i : ℕ) → i < 16 → (k : ℕ) (first : Bool) → m ≡ mark k first → twoAt v (countAt i) ≡ length (scan gs i [] (e .seen)) + one (eqb k i && first)
@@ -182,7 +182,7 @@ module _ {w q : List ℕ} {keysAt treeAt : Span} (e : Entering w q keysAt treeAt
         uncounted b (omega arith) ∙ p5 .others b k ∙ p4 .below b (omega arith) ∙ p3 .below b (omega arith) ∙ p2 .below b (omega arith) ∙ p1 .below b (omega arith)
 
     -- its own three
-    own : (b : ℕ) → nextAt y + 2 ≤ b → b + 2 ≤ 38228 → twoAt v b ≡ twoAt w3 b
+    own : (b : ℕ) → nextAt y + 2 ≤ b → b + 2 ≤ headsAt → twoAt v b ≡ twoAt w3 b
     own b l u = let j = head-places in uncounted b (omega arith) ∙ p5 .others b (λ n. inr l) ∙ p4 .below b (omega arith)
 
     tops : (i : ℕ) → i < slots → twoAt v (headAt i) ≡ cond (eqb (slot gs (e .tree)) i) x (twoAt w (headAt i))

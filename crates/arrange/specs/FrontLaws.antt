@@ -18,8 +18,8 @@ use Rattle.paths.specs.ComparedLaws.{trees-append}
 use Rattle.spec_stages.specs.Group.{Class}
 use Rattle.spec_stages.specs.Flat.{members, flat}
 use Rattle.arrange.specs.declared.arrange.Filled.{Filled}
-use Rattle.arrange.specs.Index.{base}
-use Rattle.arrange.specs.Arrange.{numbered, arranged, treesOf, numberBytes, numbersAt, indexAt, Front, Room, Grows}
+use Rattle.arrange.specs.Index.{numbersAt, base}
+use Rattle.arrange.specs.Arrange.{numbered, arranged, treesOf, numberBytes, indexAt, Front, Room, Grows}
 use Rattle.arrange.specs.StandingLaws.{six, length-cons, length-none}
 
 -- ---- lists of trees with their numbers

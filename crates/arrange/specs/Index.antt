@@ -5,7 +5,7 @@ use mathlib.Core.List.{List, [], _∷_, _++_}
 use mathlib.Core.Bool.{Bool, cond}
 use Prim.Native.Nat.{ℕ, _+_, _-_, _*_, _%_, _≤_, _<_}
 use lib.ListN.{length}
-use Rattle.spec_trees.specs.Limits.{depthMax, workMin}
+use Rattle.spec_trees.specs.Limits.{arrayMax, depthMax, workMin}
 use Rattle.spec_trees.specs.Tree.{Tree}
 use Rattle.spec_trees.specs.Bytes.{treeBytes}
 use Rattle.spec_trees.specs.Within.{Allowed, AllowedA}
@@ -18,34 +18,53 @@ use Rattle.spec_stages.specs.Group.{key, alike, sum}
 use Rattle.spec_stages.specs.Classes.{unlike, scan}
 use Rattle.group.specs.Keys.{FewPairs}
 use Rattle.group.specs.KeyHash.{keyHash}
-use Rattle.stream.specs.Map.{treesMax}
+use Rattle.stream.specs.Map.{treesMax, frontPart, collectorAt}
+use Rattle.arrange.specs.declared.index.Parts.{Parts}
 use Rattle.arrange.specs.Links.{Spot, spots, Indexed}
 
 -- ---- where the numbers stand
+-- the numbers of the arranged trees, behind them
+abbrev pub numbersAt : ℕ
+numbersAt = arrayMax
+
 -- the collected trees
 abbrev pub base : ℕ
-base = 43692
+base = collectorAt workMin
+
+-- how far below a tree its own numbers begin
+abbrev pub below : ℕ
+below = base - frontPart
 
 -- for the tree at a: the tree before it with the same slot, the tree behind it with the same key, and its mark
 abbrev pub backAt : ℕ → ℕ
-backAt a = a - 21848
+backAt a = a - below
 
 abbrev pub nextAt : ℕ → ℕ
-nextAt a = a - 21846
+nextAt a = a - (below - 2)
 
 abbrev pub markAt : ℕ → ℕ
-markAt a = a - 21844
+markAt a = a - (below - 4)
 
 -- the last tree that was entered with the slot h
 abbrev pub slots : ℕ
 slots = 2048
 
+abbrev pub headsAt : ℕ
+headsAt = frontPart + arrayMax
+
 abbrev pub headAt : ℕ → ℕ
-headAt h = 38228 + 2 * h
+headAt h = headsAt + 2 * h
 
 -- how many classes the subset m has
+abbrev pub countsAt : ℕ
+countsAt = headsAt + 2 * slots
+
 abbrev pub countAt : ℕ → ℕ
-countAt m = 42324 + 2 * m
+countAt m = countsAt + 2 * m
+
+-- the code's constants of these names: `index::all` answers this
+abbrev pub parts : Parts
+parts = record { numbers = numbersAt; heads = headsAt; slots = slots; counts = countsAt; trees = base; back = below; next = below - 2; mark = below - 4 }
 
 -- ---- what they are
 abbrev pub sizeOf : Tree → ℕ

@@ -13,7 +13,7 @@ ghost use Rattle.areas.specs.Number.{twoAt};
 ghost use Rattle.queries.specs.Places.{pairsBytes, HoldsAt, OkAt};
 ghost use Rattle.group.specs.Keys.{FewPairs};
 ghost use Rattle.stream.specs.Map.{treesMax};
-ghost use Rattle.arrange.specs.Index.{base, countAt, Entering, Collected};
+ghost use Rattle.arrange.specs.Index.{base, headsAt, countsAt, countAt, Entering, Collected};
 ghost use Rattle.arrange.specs.Entering.{HeadIs, Search, LastIs, MarkIs, Linked, Counted, Enters, Cleared, EntersAll};
 use crate::index::Index;
 use areas::area::clear;
@@ -28,7 +28,7 @@ use group::key::subset;
 /// Where the last tree is noted that was entered with the slot of this one.
 fn head_of(query: &[u8], keys: Span, work: &[u8], tree: Span) -> usize
     requires { ⌜ HoldsAt pairsBytes (now query) keys × HoldsAt treeBytes (now work) tree ⌝ }
-    ensures { λ r. ⌜ (38228 ≤ r) × (r + 2 ≤ 42324) × HeadIs (now (query .entry)) keys (now (work .entry)) tree r ⌝ }
+    ensures { λ r. ⌜ (headsAt ≤ r) × (r + 2 ≤ countsAt) × HeadIs (now (query .entry)) keys (now (work .entry)) tree r ⌝ }
 {
     Index::HEADS + 2 * (key_hash(query, keys, work, tree) % Index::SLOTS)
 }

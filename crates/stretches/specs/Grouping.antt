@@ -18,7 +18,8 @@ use Rattle.stream.specs.declared.collector.Collector.{Collector}
 use Rattle.stream.specs.Map.{frontPart}
 use Rattle.stream.specs.Collector.{Open, Feeds}
 use Rattle.stream.specs.Feed.{Planned}
-use Rattle.arrange.specs.Arrange.{numbered, arranged, treesOf, numberBytes, numbersAt}
+use Rattle.arrange.specs.Index.{numbersAt}
+use Rattle.arrange.specs.Arrange.{numbered, arranged, treesOf, numberBytes}
 use Rattle.stretches.specs.declared.group_stretch.Reached.{Reached}
 use Rattle.stretches.specs.declared.next.StretchAt.{StretchAt}
 use Rattle.stretches.specs.Stretch.{GroupPlan, through}

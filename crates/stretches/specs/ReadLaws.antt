@@ -18,7 +18,8 @@ use Rattle.paths.specs.ComparedLaws.{is-none}
 use Rattle.spec_stages.specs.Group.{Class}
 use Rattle.stream.specs.Map.{treesMax, frontPart}
 use Rattle.arrange.specs.Index.{sizeOf}
-use Rattle.arrange.specs.Arrange.{numbered, arranged, treesOf, numberBytes, numbersAt, Arranged}
+use Rattle.arrange.specs.Index.{numbersAt}
+use Rattle.arrange.specs.Arrange.{numbered, arranged, treesOf, numberBytes, Arranged}
 use Rattle.arrange.specs.StandingLaws.{six, trees-cons, length-cons, length-none, tree-end}
 use Rattle.arrange.specs.FrontLaws.{arranged-trees}
 use Rattle.stretches.specs.declared.group_stretch.Reached.{Reached}

@@ -3,6 +3,7 @@ use native.Mathlib.Omega.{arith}
 use lib.ListN.{length}
 use mathlib.Core.Path.{_≡_, refl, _∙_}
 use Prim.Native.Nat.{_-_}
+use Rattle.spec_trees.specs.Limits.{arrayMax}
 use Rattle.arrange.specs.Arrange.{Following}
 use Rattle.arrange.specs.ClassLaws as law
 use Rattle.arrange.proofs.arrange.arrange_class.Statement.{statement}
@@ -19,7 +20,7 @@ Inv-loop work₀ first so-far₀ number₀ at₀ work so-far number at =
     ((l : Following work₀ first so-far₀) → law.Copying work₀ first so-far₀ l work so-far number at)
 
 abbrev μ-loop : tie.MeasureT-loop
-μ-loop work₀ first so-far₀ number₀ at₀ work so-far number at = 16384 - so-far .to
+μ-loop work₀ first so-far₀ number₀ at₀ work so-far number at = arrayMax - so-far .to
 
 loop-holds : tie.Need-loop-holds Inv-loop μ-loop
 loop-holds c = (refl, λ l. law.copying-begin l)

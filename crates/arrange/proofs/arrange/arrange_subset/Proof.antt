@@ -4,6 +4,7 @@ use borrow.Author.Needs.{needs}
 use lib.ListN.{length}
 use mathlib.Core.Path.{_≡_, refl, sym, _∙_}
 use Prim.Native.Nat.{_+_, _-_}
+use Rattle.arrange.specs.Index.{base}
 use Rattle.arrange.specs.Arrange.{Subset}
 use Rattle.arrange.specs.SubsetLaws as law
 use Rattle.arrange.proofs.arrange.arrange_subset.Statement.{statement}
@@ -21,7 +22,7 @@ Inv-loop work₀ len subset so-far₀ left₀ at₀ work so-far left at =
     left)
 
 abbrev μ-loop : tie.MeasureT-loop
-μ-loop work₀ len subset so-far₀ left₀ at₀ work so-far left at = 43692 + len - at
+μ-loop work₀ len subset so-far₀ left₀ at₀ work so-far left at = base + len - at
 
 mul-two-at : tie.Need-mul-two-at Inv-loop μ-loop
 mul-two-at c = search needs
