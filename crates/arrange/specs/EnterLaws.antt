@@ -1,19 +1,17 @@
 -- Laws of entering an element behind all others: only the link of the last that is like it changes.
 use mathlib.Core.Path.{_≡_, refl, sym, ap, subst, _∙_}
 use mathlib.Core.List.{List, [], _∷_, _++_, reverse, reverseAux, append-nil}
-use mathlib.Core.Bool.{Bool, true, false, cond, _&&_}
+use mathlib.Core.Bool.{Bool, true, false, cond}
 use Prim.Native.Nat.{ℕ, _+_, _≤_, _<_}
 use native.Mathlib.Omega.{arith}
-use lib.Dec.{eqb}
-use borrow.Author.Tests.{eq-eqb, ne-eqb}
 use Rattle.spec_trees.specs.OptionLaws.{split, apart, cond-cases}
 use Rattle.spec_trees.specs.Lists.{filter, all}
 use Rattle.spec_stages.specs.Equivalence.{Equivalence}
 use mathlib.Core.Logic.{inl, inr}
 use Rattle.spec_trees.specs.Lists.{All}
-use Rattle.arrange.specs.Links.{Spot, Apart, Rising, passing, offset, firstOf, noneOf, Positive, Links, Heads, Entered}
+use Rattle.arrange.specs.Links.{Spot, Apart, Rising, passing, offset, firstOf, noneOf, Links, Entered}
 use Rattle.spec_stages.specs.EquivalenceLaws.{turned}
-use Rattle.arrange.specs.LinksLaws.{first-step, first-none, none-first, none-same, passing-append, passing-none, first-behind, first-before}
+use Rattle.arrange.specs.LinksLaws.{first-step, none-same, passing-append, passing-none, first-behind, first-before}
 
 module _ {A : Type 0} where
   -- ---- the last that passes, or d
@@ -82,18 +80,6 @@ module _ {A : Type 0} where
   unfolding firstOf passing filter offset
   first-alone f s p = rw p refl
 
-  -- the first of all, where one is added that passes, or any one
-  first-with-passing : (f : A → Bool) (ss : List (Spot A)) (s : Spot A) → Positive ss → f (s .1) ≡ true
-      → firstOf f (ss ++ (s ∷ [])) ≡ cond (eqb (firstOf f ss) 0) (s .0) (firstOf f ss)
-  first-with-passing f ss s o p =
-      split (noneOf f ss)
-      (λ n. first-behind f ss (s ∷ []) n ∙ first-alone f s p ∙ sym (rw (eq-eqb (firstOf f ss) 0 (first-none f ss n)) refl))
-      (λ n. first-before f ss (s ∷ []) n ∙ sym (rw (ne-eqb (firstOf f ss) 0 (λ z. apart (none-first f ss o z) n)) refl))
-
-  first-with : (f : A → Bool) (ss : List (Spot A)) (s : Spot A) → Positive ss
-      → firstOf f (ss ++ (s ∷ [])) ≡ cond (f (s .1) && eqb (firstOf f ss) 0) (s .0) (firstOf f ss)
-  first-with f ss s o = split (f (s .1)) (λ p. rw p (first-with-passing f ss s o p)) (λ p. rw p (first-unlike f ss s p))
-
   -- ---- x enters at b
   module _ (e : A → A → Bool) (q : Equivalence e) (g : ℕ) (z : 0 < g) (link link′ : ℕ → ℕ) (x : A) (b y : ℕ) (m : Entered g link link′ y b) where
     abbrev likeX : A → Bool
@@ -159,10 +145,3 @@ module _ {A : Type 0} where
   unfolding firstOf passing filter offset
   entered-next e q g z link link′ ss b x r m h =
       relinked-all e q g z link link′ x b (firstOf (λ t. e t x) (reverse ss)) m 0 ss r (sym (last-onto (λ t. e t x) ss [])) h
-
-  -- for the first of each number nothing changes, unless x is the first with its own
-  pub entered-last : (slot : A → ℕ) (n : ℕ) (heads heads′ : ℕ → ℕ) (ss : List (Spot A)) (b : ℕ) (x : A) → Positive ss
-      → ((h : ℕ) → h < n → heads′ h ≡ cond (eqb (slot x) h && eqb (heads h) 0) b (heads h)) → Heads slot n heads ss
-      → Heads slot n heads′ (ss ++ ((b, x) ∷ []))
-  entered-last slot n heads heads′ ss b x p k hs h l =
-      k h l ∙ ap (λ o. cond (eqb (slot x) h && eqb o 0) b o) (hs h l) ∙ sym (first-with (λ y. eqb (slot y) h) ss (b, x) p)

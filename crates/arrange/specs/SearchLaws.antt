@@ -1,5 +1,5 @@
 -- Laws of the search for the last tree with the same key: it goes back along the trees of one slot.
-use mathlib.Core.Path.{_≡_, sym, subst, _∙_}
+use mathlib.Core.Path.{_≡_, sym, ap, subst, _∙_}
 use mathlib.Core.List.{List, [], _∷_, _++_, reverse}
 use mathlib.Core.Bool.{Bool, true, false}
 use mathlib.Core.Logic.{_≢_}
@@ -16,9 +16,9 @@ use Rattle.areas.specs.Number.{twoAt}
 use Rattle.spec_queries.specs.Query.{Pair}
 use Rattle.queries.specs.Places.{pairsBytes, HoldsAt}
 use Rattle.spec_stages.specs.Group.{alike}
-use Rattle.spec_stages.specs.AlikeLaws.{alike-keys, alike-equivalence}
+use Rattle.spec_stages.specs.AlikeLaws.{alike-equivalence}
 use Rattle.group.specs.Keys.{AlikeIs}
-use Rattle.group.specs.KeyHash.{keyHash}
+use Rattle.group.specs.KeyHashLaws.{hash-alike}
 use Rattle.stream.specs.Map.{treesMax}
 use Rattle.arrange.specs.Links.{Spot, end, down, Rising, passing, firstOf, Walk}
 use Rattle.arrange.specs.LinksLaws.{search}
@@ -33,7 +33,7 @@ slot-below gs t = omega arith
 
 -- trees that are alike have the same slot
 slot-alike : (gs : List Pair) (t u : Tree) → alike gs t u ≡ true → slot gs t ≡ slot gs u
-slot-alike gs t u e = alike-keys (λ k. keyHash k % slots) gs t u e
+slot-alike gs t u e = ap (λ n. n % slots) (hash-alike gs t u e)
 
 module _ {w q : List ℕ} {keysAt treeAt : Span} (e : Entering w q keysAt treeAt) where
   pub end-seen : end sizeOf base (e .seen) ≡ treeAt .from

@@ -12,7 +12,6 @@ use Rattle.areas.specs.Area.{fieldEnd, IsAt, span}
 use Rattle.format.specs.Stand.{Holds}
 use Rattle.spec_queries.specs.Query.{Pair}
 use Rattle.spec_queries.specs.Bytes.{pairF}
-use Rattle.spec_queries.specs.Rules.{OkPairs}
 use Rattle.queries.specs.Places.{routeBytes, pairBytes, pairsBytes, HoldsOk, PairIs, ReadsPair}
 use Rattle.queries.specs.PartLaws.{list-parts, list-none}
 use Rattle.queries.specs.declared.item.PairAt.{PairAt}
@@ -66,10 +65,6 @@ pub weighed-next : {q : List ℕ} {at m ge w : ℕ} → (at ≡ ge → ⊥) → 
 weighed-next {w = w} n z h =
     let c = list-parts pairF (h .value) z n (h .value-is) in
     record { value = c .rest; allowed = subst (WeightFits w) (c .same) (h .allowed); value-is = c .rest-is }
-
--- what a caller has of an allowed group
-pub few-pairs : {q : List ℕ} {g ge : ℕ} → HoldsOk (OkPairs groupingMax) pairsBytes q g ge → HoldsOk FewPairs pairsBytes q g ge
-few-pairs h = record { value = h .value; allowed = h .allowed .1; value-is = h .value-is }
 
 -- ---- the sum: none, or the first pair and the rest
 module _ (q : List ℕ) (at ge : ℕ) (s : List ℕ) (a b : ℕ) where

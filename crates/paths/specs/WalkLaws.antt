@@ -20,7 +20,7 @@ use Rattle.format.specs.StandLaws.{tree-parts, trees-parts, trees-none, trees-p
 use Rattle.spec_queries.specs.Query.{Route}
 use Rattle.queries.specs.Places.{routeBytes}
 use Rattle.queries.specs.Steps.{stepCount, stepAt, StepInside}
-use Rattle.queries.specs.StepLaws.{steps-are, step-is, step-inside, steps-fewer, path-room}
+use Rattle.queries.specs.StepLaws.{steps-are, step-is, step-inside, path-room}
 use Rattle.spec_stages.specs.Paths.{Given, present, join, joins, over, reached, apply}
 use Rattle.paths.specs.Walk.{given, Walk, Tells, TellsOver, TellsJoined, Under}
 
@@ -154,10 +154,6 @@ module _ {q : List ℕ} {p : Span} {i : ℕ} {s : List ℕ} {a b : ℕ} where
 -- i steps are not all
 pub step-left : {A : Type 0} {f : A → List ℕ} {q : List ℕ} {p : Span} {i : ℕ} {s : List ℕ} {a b n : ℕ} → Walk f q p i s (span a b) → n ≡ stepCount q p → (i ≡ n → ⊥) → i < stepCount q p
 step-left w z k = omega (arith, w .step)
-
--- so they are below the path's end, by which walks are measured
-pub step-below : {A : Type 0} {f : A → List ℕ} {q : List ℕ} {p : Span} {i : ℕ} {s : List ℕ} {a b : ℕ} → Walk f q p i s (span a b) → i ≤ p .to
-step-below {q = q} {p = p} w = omega (arith, w .step, steps-fewer q p)
 
 -- ---- whether an application is present
 pub present-some : (a : List Tree) → true ≡ present (some a)

@@ -6,15 +6,13 @@ use Prim.Native.Nat.{ℕ, _+_, _≤_}
 use native.Mathlib.Omega.{arith}
 use lib.ListN.{length}
 use lib.Seq.{take-all}
-use Rattle.spec_trees.specs.Limits.{depthMax}
 use Rattle.spec_trees.specs.Tree.{Tree, trees}
 use Rattle.spec_trees.specs.Bytes.{bytes, treeF, treeFs, treeBytes, arrayF, arrayBytes}
-use Rattle.spec_trees.specs.Within.{Allowed, AllowedA}
 use Rattle.areas.specs.Area.{Is, fieldEnd}
 use Rattle.areas.specs.AreaLaws.{is-content, is-join, is-left, is-right}
 use Rattle.format.specs.Stand.{treesBytes}
 use Rattle.format.specs.StandLaws.{trees-parts, trees-none, is-alone}
-use Rattle.queries.specs.Places.{arrayTrees, HoldsOk}
+use Rattle.queries.specs.Places.{arrayTrees}
 
 -- the first tree, which ends at m, and those behind it
 pub record ArrayParts (w : List ℕ) (p m e : ℕ) (ts : List Tree) : Type 0 where
@@ -60,20 +58,6 @@ array-behind {w} {p} {m} {e} [] t h k = let z : m ≡ p = omega (arith, h .ends)
 array-behind {w} {p} {m} {e} (x ∷ xs) t h k =
     let y : p + length (treeBytes x) ≡ p + length (treeBytes x) = refl in
     array-before x (xs ++ (t ∷ [])) (is-left (treeBytes x) (arrayTrees xs) y h) (array-behind xs t (is-right (treeBytes x) (arrayTrees xs) y h) k)
-
-module _ {w : List ℕ} {p m e : ℕ} (n : p ≡ e → ⊥) (g : m ≡ fieldEnd w p) (h : HoldsOk AllowedA arrayTrees w p e) where
-  pub array-places : (p + 6 ≤ m) × (m ≤ e) × (e ≤ length w)
-  array-places = let a = array-parts (h .value) g n (h .value-is) in (a .after, a .within, h .value-is .inside)
-
-  pub array-first : HoldsOk (Allowed depthMax) treeBytes w p m
-  array-first =
-      let a = array-parts (h .value) g n (h .value-is) in
-      record { value = a .first; allowed = subst AllowedA (a .same) (h .allowed) .0; value-is = a .first-is }
-
-  pub array-rest : HoldsOk AllowedA arrayTrees w m e
-  array-rest =
-      let a = array-parts (h .value) g n (h .value-is) in
-      record { value = a .rest; allowed = subst AllowedA (a .same) (h .allowed) .1; value-is = a .rest-is }
 
 -- the trees of an array stand behind its head
 pub array-reads : (s : List ℕ) (ts : List Tree) → s ≡ arrayBytes ts → Is s 3 (length s) (arrayTrees ts)
