@@ -108,15 +108,16 @@
  * not proved. The most that was seen in cases made to go deep and in random
  * ones, with a return address and four arguments on the stack counted in:
  *
- *     tquery_run          8,720 bytes
- *     tquery_regroup      3,464 bytes
- *     tquery_check_query  3,048 bytes
+ *     tquery_run          8,816 bytes
+ *     tquery_regroup      2,816 bytes
+ *     tquery_check_query  2,416 bytes
  *     tquery_check_array  1,400 bytes
  *
  * The library's tests fail if a call uses more than TQUERY_STACK_MAX bytes.
  * The library does not clear its stack, and single bytes of records were seen
- * to stay there. A maker who must leave nothing of the records on the stack
- * clears TQUERY_STACK_MAX bytes below the stack pointer after a call.
+ * to stay there; of a group also places that depend on numbers made of the
+ * keys. A maker who must leave nothing of the records on the stack clears
+ * TQUERY_STACK_MAX bytes below the stack pointer after a call.
  */
 
 #ifndef TQUERY_H

@@ -76,16 +76,40 @@ fn mask(bytes: &mut [u8]) -> bool {
     reduces
 }
 
-/// How many bytes of two stacks differ, counted from their common top, and how
-/// many of them stand together at most.
-pub fn differing(one: &[u8], other: &[u8]) -> (usize, usize) {
-    let (mut all, mut together, mut most) = (one.len().abs_diff(other.len()), 0, 0);
+/// Whether the call groups: the query is read by its stages' tags alone.
+pub fn groups(case: &Lending) -> bool {
+    let mut rest = case.read[0].get(3..).unwrap_or_default();
+    while let [tag, high, low, behind @ ..] = rest {
+        if *tag == tags::GROUP {
+            return true;
+        }
+        rest = behind.get(usize::from(u16::from_be_bytes([*high, *low]))..).unwrap_or_default();
+    }
+    false
+}
+
+/// In what two stacks differ, which two runs with other records have left.
+#[derive(Default)]
+pub struct Differing {
+    /// How many bytes, and how many of them together at most.
+    pub all: usize,
+    pub together: usize,
+    /// How many bytes of records stand together at most: a byte of a record is the other run's, masked.
+    pub of_records: usize,
+}
+
+/// In what two stacks differ, from their common top.
+pub fn differing(one: &[u8], other: &[u8]) -> Differing {
+    let mut found = Differing { all: one.len().abs_diff(other.len()), ..Differing::default() };
+    let (mut together, mut of_records) = (0, 0);
     for (a, b) in one.iter().rev().zip(other.iter().rev()) {
         together = if a == b { 0 } else { together + 1 };
-        all += usize::from(a != b);
-        most = most.max(together);
+        of_records = if a ^ b == MASK { of_records + 1 } else { 0 };
+        found.all += usize::from(a != b);
+        found.together = found.together.max(together);
+        found.of_records = found.of_records.max(of_records);
     }
-    (all, most)
+    found
 }
 
 #[cfg(test)]
@@ -128,7 +152,24 @@ mod tests {
 
     #[test]
     fn differences_are_counted() {
-        assert_eq!(differing(&[1, 2, 3, 4, 5], &[1, 9, 9, 4, 9]), (3, 2));
-        assert_eq!(differing(&[7, 7, 1], &[1]), (2, 0));
+        let counted = |one: &[u8], other: &[u8]| {
+            let found = differing(one, other);
+            (found.all, found.together, found.of_records)
+        };
+        assert_eq!(counted(&[1, 2, 3, 4, 5], &[1, 9, 9, 4, 9]), (3, 2, 0));
+        assert_eq!(counted(&[7, 7, 1], &[1]), (2, 0, 0));
+        assert_eq!(counted(&[1, 2, 3, 4], &[1, 2 ^ MASK, 3 ^ MASK, 9]), (3, 3, 2));
+    }
+
+    #[test]
+    fn a_group_is_seen() {
+        let lending = |stages: Vec<Stage>| Lending {
+            read: [encode_query(&stages).unwrap(), vec![], vec![]],
+            ..Lending::from(reference::generate::Cases::new(1).next().unwrap().0)
+        };
+        let group = || Stage::Group { aggregates: vec![], grouping: vec![] };
+        assert!(groups(&lending(vec![Stage::Unwind(vec![1]), group()])));
+        assert!(!groups(&lending(vec![Stage::Unwind(vec![20])])));
+        assert!(!groups(&lending(vec![])));
     }
 }

@@ -10,7 +10,10 @@
 //! hold texts and integers of distinctive bytes, and runs of four of them are
 //! searched for, in either order. And an admitted case runs a second time with
 //! the same areas at the same places, but with other texts and integers: every
-//! byte of the stack that differs then depends on what the records hold.
+//! byte of the stack that differs then depends on what the records hold. Where
+//! a query groups, a number of each key decides which trees are compared, so
+//! other records may leave other places behind: there a byte of a record is
+//! known by its mask.
 
 mod left;
 mod lending;
@@ -18,7 +21,7 @@ mod lent;
 mod painted;
 mod worst;
 
-use left::{differing, distinctive, masked, Runs};
+use left::{differing, distinctive, groups, masked, Runs};
 use lending::{Call, Lending};
 use lent::Lent;
 use reference::generate::{Cases, RegroupCases};
@@ -67,13 +70,22 @@ struct Kind {
 struct Left {
     /// Places with a run of a record's bytes.
     runs: usize,
-    /// Cases that ran twice, with other records.
-    compared: u64,
+    /// Of calls that do not group, and of those that do.
+    plain: Twice,
+    grouping: Twice,
+}
+
+/// Cases that ran twice, with other records.
+#[derive(Default)]
+struct Twice {
+    cases: u64,
     /// Bytes that depend on what the records hold: in all these cases, in the
     /// one that left most of them, and at most together.
     all: usize,
     most: usize,
     together: usize,
+    /// Bytes of records, at most together.
+    of_records: usize,
 }
 
 #[derive(Default)]
@@ -141,7 +153,9 @@ impl Measured {
     }
 
     fn passes(&self) -> bool {
-        self.deepest() <= BOUND && self.left.runs == 0 && self.left.together <= TOGETHER
+        let Left { runs, plain, grouping } = &self.left;
+        let few = plain.together <= TOGETHER && grouping.of_records <= TOGETHER;
+        self.deepest() <= BOUND && *runs == 0 && few
     }
 
     fn print(&self) {
@@ -151,12 +165,13 @@ impl Measured {
             println!("{call:<11} {name:<28} {:>8} {:>8} {:>8}", kind.calls, kind.accepted, kind.deepest);
         }
         println!("deepest use: {} bytes; the bound is {BOUND}", self.deepest());
-        let Left { runs, compared, all, most, together } = self.left;
-        println!("runs of 4 bytes of a record left on the stack: {runs}");
-        println!("cases run twice with other records: {compared}");
-        println!(
-            "bytes left that differ: {all} in all, {most} in a case at most, {together} together at most"
-        );
+        println!("runs of 4 bytes of a record left on the stack: {}", self.left.runs);
+        for (kind, twice) in [("without a group", &self.left.plain), ("with a group", &self.left.grouping)] {
+            let Twice { cases, all, most, together, of_records } = twice;
+            println!("cases run twice with other records, {kind}: {cases}");
+            println!("  bytes left that differ: {all} in all, {most} in a case at most, {together} together at most");
+            println!("  bytes of records: {of_records} together at most");
+        }
     }
 }
 
@@ -166,11 +181,13 @@ impl Left {
     fn compare(&mut self, lent: &mut Lent, number: u8, other: &Lending) {
         let left = lent.stack.left().to_vec();
         assert_eq!(lent.call(other), number, "the number does not depend on which records are equal");
-        let (all, together) = differing(&left, lent.stack.left());
-        self.compared += 1;
-        self.all += all;
-        self.most = self.most.max(all);
-        self.together = self.together.max(together);
+        let found = differing(&left, lent.stack.left());
+        let twice = if groups(other) { &mut self.grouping } else { &mut self.plain };
+        twice.cases += 1;
+        twice.all += found.all;
+        twice.most = twice.most.max(found.all);
+        twice.together = twice.together.max(found.together);
+        twice.of_records = twice.of_records.max(found.of_records);
     }
 }
 
@@ -190,7 +207,8 @@ mod tests {
         let measured = measured();
         assert!(measured.deepest() <= BOUND);
         assert_eq!(measured.left.runs, 0);
-        assert!(measured.left.together <= TOGETHER);
+        assert!(measured.left.plain.together <= TOGETHER);
+        assert!(measured.left.grouping.of_records <= TOGETHER);
     }
 
     /// The bytes that the header says behind a name, which is the second word of a line.
