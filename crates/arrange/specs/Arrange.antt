@@ -18,7 +18,7 @@ use Rattle.spec_stages.specs.Group.{Class, grouped}
 use Rattle.spec_stages.specs.Classes.{scan}
 use Rattle.spec_stages.specs.Flat.{members, flat}
 use Rattle.group.specs.Keys.{FewPairs}
-use Rattle.stream.specs.Map.{treesMax, frontPart}
+use Rattle.map.specs.Map.{treesMax, frontPart}
 use Rattle.arrange.specs.declared.arrange.Filled.{Filled}
 use Rattle.arrange.specs.Links.{Spot, elements, up, Walk}
 use Rattle.arrange.specs.Index.{numbersAt, base, nextAt, Index, Collected}

@@ -26,7 +26,7 @@ use Rattle.spec_stages.specs.OnceLaws.{gather-upto}
 use Rattle.spec_stages.specs.Flat.{members, flat}
 use Rattle.spec_stages.specs.GroupedLaws.{flat-size}
 use Rattle.group.specs.Keys.{FewPairs}
-use Rattle.stream.specs.Map.{treesMax}
+use Rattle.map.specs.Map.{treesMax}
 use Rattle.arrange.specs.declared.arrange.Filled.{Filled}
 use Rattle.arrange.specs.Index.{numbersAt, base, Index, Collected}
 use Rattle.arrange.specs.Entering.{EntersAll}

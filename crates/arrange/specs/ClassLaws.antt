@@ -12,7 +12,7 @@ use Rattle.areas.specs.Area.{Is, fieldEnd, span}
 use Rattle.areas.specs.AreaLaws.{is-beyond}
 use Rattle.areas.specs.Number.{twoAt}
 use Rattle.queries.specs.Places.{arrayTrees, HoldsAt}
-use Rattle.stream.specs.Map.{treesMax}
+use Rattle.map.specs.Map.{treesMax}
 use Rattle.arrange.specs.declared.arrange.Filled.{Filled}
 use Rattle.arrange.specs.Links.{Spot, elements, up, Walk}
 use Rattle.arrange.specs.IndexLaws.{walk-ended, walk-on}

@@ -15,7 +15,7 @@ use Rattle.areas.specs.Number.{twoAt}
 use Rattle.spec_queries.specs.Query.{Pair}
 use Rattle.queries.specs.Places.{pairsBytes}
 use Rattle.spec_stages.specs.Group.{key, alike, sum}
-use Rattle.stream.specs.Map.{treesMax}
+use Rattle.map.specs.Map.{treesMax}
 use Rattle.arrange.specs.Links.{Spot, down, firstOf, Walk}
 use Rattle.arrange.specs.Index.{base, backAt, nextAt, slots, headAt, countAt, sizeOf, standing, slot, mark, Index, Entering, Collected}
 

@@ -22,7 +22,7 @@ use Rattle.spec_stages.specs.Group.{key, alike, sum}
 use Rattle.spec_stages.specs.Classes.{unlike, begins, scan}
 use Rattle.spec_stages.specs.AlikeLaws.{alike-equivalence, sum-below}
 use Rattle.group.specs.Keys.{FewPairs}
-use Rattle.stream.specs.Map.{treesMax}
+use Rattle.map.specs.Map.{treesMax}
 use Rattle.arrange.specs.Links.{Spot, spots, elements, Apart, passing, offset, firstOf, Entered, Stored}
 use Rattle.arrange.specs.LinksLaws.{first-step}
 use Rattle.arrange.specs.EnterLaws.{apart-found, rising-left}

@@ -18,7 +18,7 @@ use Rattle.spec_stages.specs.Group.{key, alike, sum}
 use Rattle.spec_stages.specs.Classes.{unlike, scan}
 use Rattle.group.specs.Keys.{FewPairs}
 use Rattle.group.specs.KeyHash.{keyHash}
-use Rattle.stream.specs.Map.{treesMax, frontPart, collectorAt}
+use Rattle.map.specs.Map.{treesMax, frontPart, collectorAt}
 use Rattle.arrange.specs.declared.index.Parts.{Parts}
 use Rattle.arrange.specs.Links.{Spot, spots, Indexed}
 

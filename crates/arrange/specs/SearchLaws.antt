@@ -19,7 +19,7 @@ use Rattle.spec_stages.specs.Group.{alike}
 use Rattle.spec_stages.specs.AlikeLaws.{alike-equivalence}
 use Rattle.group.specs.Keys.{AlikeIs}
 use Rattle.group.specs.KeyHashLaws.{hash-alike}
-use Rattle.stream.specs.Map.{treesMax}
+use Rattle.map.specs.Map.{treesMax}
 use Rattle.arrange.specs.Links.{Spot, end, down, Rising, passing, firstOf, Walk}
 use Rattle.arrange.specs.LinksLaws.{search}
 use Rattle.arrange.specs.IndexLaws.{index-walk, walk-down, rising-behind, search-ended, search-on}

@@ -13,7 +13,7 @@ use Rattle.spec_trees.specs.Within.{AllowedA}
 use Rattle.areas.specs.Area.{Is, fieldEnd}
 use Rattle.areas.specs.AreaLaws.{is-left, is-right, is-field-end}
 use Rattle.queries.specs.Places.{arrayTrees}
-use Rattle.stream.specs.Map.{treesMax}
+use Rattle.map.specs.Map.{treesMax}
 use Rattle.arrange.specs.Links.{spots, end}
 use Rattle.arrange.specs.Index.{base, sizeOf}
 use Rattle.arrange.specs.Entering.{Stood}

@@ -21,7 +21,7 @@ use Rattle.spec_stages.specs.Group.{key, alike, sum, Class}
 use Rattle.spec_stages.specs.Classes.{unlike, begins, scan}
 use Rattle.spec_stages.specs.Flat.{members, flat}
 use Rattle.spec_stages.specs.AlikeLaws.{alike-equivalence}
-use Rattle.stream.specs.Map.{treesMax}
+use Rattle.map.specs.Map.{treesMax}
 use Rattle.arrange.specs.declared.arrange.Filled.{Filled}
 use Rattle.arrange.specs.Links.{Spot, spots, end, elements, up, passing, Walk}
 use Rattle.arrange.specs.SpotsLaws.{spots-append, spots-elements}

@@ -12,7 +12,7 @@ ghost use Rattle.spec_trees.specs.Bytes.{treeBytes};
 ghost use Rattle.areas.specs.Number.{twoAt};
 ghost use Rattle.queries.specs.Places.{pairsBytes, HoldsAt, OkAt};
 ghost use Rattle.group.specs.Keys.{FewPairs};
-ghost use Rattle.stream.specs.Map.{treesMax};
+ghost use Rattle.map.specs.Map.{treesMax};
 ghost use Rattle.arrange.specs.Index.{base, headsAt, countsAt, countAt, Entering, Collected};
 ghost use Rattle.arrange.specs.Entering.{HeadIs, Search, LastIs, MarkIs, Linked, Counted, Enters, Cleared, EntersAll};
 use crate::index::Index;

@@ -2,7 +2,7 @@
 ghost use mathlib.Core.Path.{_≡_};
 ghost use Rattle.arrange.specs.Index.{parts};
 use format::limits::Limits;
-use stream::map::Map;
+use map::map::Map;
 
 /// Places in a work area of 65,536 bytes, and distances. A tree has six bytes or more, so each has six bytes of its own
 /// below it, at three distances: as far below as the collected trees stand above the front part.

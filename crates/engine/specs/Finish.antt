@@ -9,7 +9,7 @@ use Rattle.areas.specs.Area.{Is}
 use Rattle.format.specs.Stand.{treesBytes, Holds}
 use Rattle.queries.specs.Places.{arrayTrees}
 use Rattle.spec_stages.specs.Stages.{State, going}
-use Rattle.stream.specs.Map.{endPart, collectorAt}
+use Rattle.map.specs.Map.{endPart, collectorAt}
 use Rattle.stretches.specs.declared.ended.Ended.{Ended}
 use Rattle.stretches.specs.Ended.{EndedIs}
 use Rattle.spec_run.specs.declared.answer.Answer.{Answer}

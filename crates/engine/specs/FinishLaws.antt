@@ -18,7 +18,7 @@ use Rattle.areas.specs.Area.{Is, Wrote, headBytes}
 use Rattle.areas.specs.AreaLaws.{is-part, told}
 use Rattle.queries.specs.Places.{arrayTrees}
 use Rattle.spec_stages.specs.Stages.{State, going, large, long}
-use Rattle.stream.specs.Map.{collectorAt}
+use Rattle.map.specs.Map.{collectorAt}
 use Rattle.stretches.specs.declared.ended.Ended.{Ended}
 use Rattle.stretches.specs.LaterLaws.{size-is}
 use Rattle.stretches.specs.Ended.{FullIs}

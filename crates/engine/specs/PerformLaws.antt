@@ -13,7 +13,7 @@ use Rattle.spec_trees.specs.Within.{AllBytes}
 use Rattle.spec_trees.specs.ArrayLaws.{array-only, read-array}
 use Rattle.spec_queries.specs.QueryLaws.{query-only, read-query}
 use Rattle.spec_stages.specs.Stages.{going, stages}
-use Rattle.stream.specs.Map.{endPart}
+use Rattle.map.specs.Map.{endPart}
 use Rattle.stretches.specs.declared.ended.Ended.{Ended}
 use Rattle.stretches.specs.Ended.{Forms, Runs}
 use Rattle.spec_run.specs.declared.answer.Refusal.{Refusal}

@@ -13,9 +13,9 @@ use areas::area::emit;
 use areas::area::field_end;
 use areas::area::put_head;
 use format::limits::Limits;
+use map::map::Map;
 use spec_run::answer::Answer;
 use spec_run::answer::Refusal;
-use stream::map::Map;
 use stretches::ended::Ended;
 
 /// A refusal before the stages: the work area is zero, unless it is too short; the result area is not touched.

@@ -23,7 +23,7 @@ use Rattle.queries.specs.Places.{arrayTrees, Pairs}
 use Rattle.queries.specs.TreesLaws.{array-reads}
 use Rattle.queries.specs.declared.stage.GroupAt.{GroupAt}
 use Rattle.paths.specs.ComparedLaws.{is-none, trees-append}
-use Rattle.stream.specs.Map.{treesMax, collectorAt}
+use Rattle.map.specs.Map.{treesMax, collectorAt}
 use Rattle.stream.specs.Collector.{Collects}
 use Rattle.stream.specs.Feed.{Planned}
 use Rattle.stream.specs.declared.collector.Collector.{Collector}

@@ -3,12 +3,12 @@ ghost use mathlib.Core.List.{_++_};
 ghost use Prim.Native.Nat.{_+_, _≤_};
 ghost use lib.ListN.{length, drop};
 ghost use Rattle.spec_trees.specs.Limits.{workMin};
-ghost use Rattle.stream.specs.Map.{treesMax};
+ghost use Rattle.map.specs.Map.{treesMax};
 ghost use Rattle.areas.specs.Area.{Wrote};
 use areas::area::Out;
 use areas::area::copy_in;
 use areas::span::Span;
-use stream::map::Map;
+use map::map::Map;
 
 /// The trees of the first array, and behind them those of the second, in the work area from `from` on; or they are more
 /// than an array may have.

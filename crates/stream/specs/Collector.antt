@@ -10,7 +10,7 @@ use Rattle.queries.specs.Places.{arrayTrees}
 use Rattle.spec_stages.specs.Stages.{State, going, large, long}
 use Rattle.stream.specs.declared.collector.Collector.{Collector}
 use Rattle.stream.specs.declared.collector.Collector.the-variants.{Len, Over, Large}
-use Rattle.stream.specs.Map.{treesMax, collectorAt, tailMin}
+use Rattle.map.specs.Map.{treesMax, collectorAt, tailMin}
 
 unfoldable pub isLarge : Collector → Bool
 isLarge (Len n) = false

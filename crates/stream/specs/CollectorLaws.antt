@@ -20,7 +20,7 @@ use Rattle.spec_stages.specs.Join.{beside, GroupFree}
 use Rattle.spec_stages.specs.JoinLaws.{stages-join}
 use Rattle.stream.specs.declared.collector.Collector.{Collector}
 use Rattle.stream.specs.declared.collector.Collector.the-variants.{Len, Over, Large}
-use Rattle.stream.specs.Map.{treesMax, endPart, collectorAt}
+use Rattle.map.specs.Map.{treesMax, endPart, collectorAt}
 use Rattle.stream.specs.Collector.{isLarge, ends, Collects, Open, Fed, Feeds, CollectReady, Collected}
 use Rattle.stream.specs.Tails.{tail, lent}
 use Rattle.spec_stages.specs.StretchLaws.{stages-none, stages-large}

@@ -18,7 +18,7 @@ use Rattle.spec_stages.specs.Stages.{going, step, stages}
 use Rattle.stream.specs.declared.collector.Collector.{Collector}
 use Rattle.stream.specs.declared.feed.PartAt.{PartAt}
 use Rattle.spec_stages.specs.Stretch.{before}
-use Rattle.stream.specs.Map.{rooms, tailMin, stageMin}
+use Rattle.map.specs.Map.{rooms, tailMin, stageMin}
 use Rattle.stream.specs.Collector.{Open, Feeds}
 
 -- ---- what stands there

@@ -34,7 +34,7 @@ use Rattle.stream.specs.declared.collector.Collector.{Collector}
 use Rattle.stream.specs.declared.collector.Collector.the-variants.{Large}
 use Rattle.spec_stages.specs.Stretch.{before}
 use Rattle.spec_stages.specs.StretchLaws.{before-next, before-group, before-none, before-free}
-use Rattle.stream.specs.Map.{rooms, building, tailMin, stageMin}
+use Rattle.map.specs.Map.{rooms, building, tailMin, stageMin}
 use Rattle.stream.specs.Collector.{ends, Collects, Fed, Feeds, CollectReady, Collected}
 use Rattle.stream.specs.CollectorLaws.{feeds-none, feeds-large, feeds-lent, feeds-move}
 use Rattle.stream.specs.Tails.{tail, lent}

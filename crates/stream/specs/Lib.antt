@@ -1,11 +1,9 @@
 -- Definitions.
-pub mod Map
 pub mod Collector
 pub mod Feed
 pub mod Tails
 pub mod Unwinding
 -- Laws.
-pub mod MapLaws
 pub mod TailLaws
 pub mod CollectorLaws
 pub mod FeedLaws

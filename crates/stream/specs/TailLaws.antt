@@ -7,7 +7,7 @@ use lib.ListN.{length, take, drop, length-append, length-drop, drop-of-length-le
 use lib.Seq.{take-all, take-at, drop-append-add, drop-drop, length-take-le, take-take}
 use Rattle.areas.specs.Area.{Is}
 use Rattle.areas.specs.AreaLaws.{is-part, drop-more}
-use Rattle.stream.specs.Map.{endPart, collectorAt}
+use Rattle.map.specs.Map.{endPart, collectorAt}
 use Rattle.stream.specs.Collector.{ends}
 use Rattle.stream.specs.Tails.{tail, lent}
 

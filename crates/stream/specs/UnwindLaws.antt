@@ -41,7 +41,7 @@ use Rattle.stream.specs.declared.collector.Collector.{Collector}
 use Rattle.stream.specs.declared.collector.Collector.the-variants.{Large}
 use Rattle.spec_stages.specs.Stretch.{before}
 use Rattle.spec_stages.specs.StretchLaws.{before-free}
-use Rattle.stream.specs.Map.{rooms, stageMin}
+use Rattle.map.specs.Map.{rooms, stageMin}
 use Rattle.stream.specs.Collector.{isLarge, ends, Feeds}
 use Rattle.stream.specs.CollectorLaws.{feeds-none, feeds-lent, feeds-more, feeds-stop, feeds-open}
 use Rattle.stream.specs.Tails.{tail, lent}

@@ -3,10 +3,10 @@
 //! the collector's.
 ghost use mathlib.Core.Path.{_≡_};
 ghost use Rattle.stream.specs.Collector.{isLarge, CollectReady, Collected};
-use crate::map::Map;
 use areas::area::Out;
 use areas::area::copy;
 use areas::span::Span;
+use map::map::Map;
 
 /// What the collector holds: so many bytes; more than an array may have; or that a tree was too large, which ends the
 /// run. The number has two bytes: eight would bring seven of padding, copied in overlapping pieces, for which a

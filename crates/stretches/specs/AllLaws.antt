@@ -22,7 +22,7 @@ use Rattle.spec_stages.specs.KeepLaws.{stages-allowed}
 use Rattle.stream.specs.declared.collector.Collector.{Collector}
 use Rattle.spec_stages.specs.Stretch.{before, behind}
 use Rattle.spec_stages.specs.StretchLaws.{before-behind, stretch, before-short}
-use Rattle.stream.specs.MapLaws.{first-fits}
+use Rattle.map.specs.MapLaws.{first-fits}
 use Rattle.stream.specs.Feed.{Planned}
 use Rattle.stretches.specs.declared.ended.Ended.{Ended}
 use Rattle.stretches.specs.Ended.{EndedIs, Forms, Runs}

@@ -14,7 +14,7 @@ use Rattle.spec_queries.specs.Bytes.{queryBytes}
 use Rattle.spec_queries.specs.Rules.{OkQ}
 use Rattle.queries.specs.Places.{arrayTrees}
 use Rattle.spec_stages.specs.Stages.{State, going, large, long, stages}
-use Rattle.stream.specs.Map.{collectorAt}
+use Rattle.map.specs.Map.{collectorAt}
 use Rattle.stretches.specs.declared.ended.Ended.{Ended}
 
 -- the trees of the state stand in the collector, n bytes of them, and are no more than an array may have

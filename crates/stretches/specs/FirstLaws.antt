@@ -27,7 +27,7 @@ use Rattle.stream.specs.declared.collector.Collector.{Collector}
 use Rattle.stream.specs.declared.collector.Collector.the-variants.{Len, Large}
 use Rattle.spec_stages.specs.Stretch.{before}
 use Rattle.spec_stages.specs.StretchLaws.{before-free, before-none, before-group}
-use Rattle.stream.specs.Map.{treesMax, collectorAt, tailMin}
+use Rattle.map.specs.Map.{treesMax, collectorAt, tailMin}
 use Rattle.stream.specs.Collector.{isLarge, ends, Collects, Open, Fed, Feeds}
 use Rattle.stream.specs.CollectorLaws.{feeds-move, feeds-more, feeds-stop, feeds-none, feeds-open}
 use Rattle.stream.specs.TailLaws.{ends-beyond}

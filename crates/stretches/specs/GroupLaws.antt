@@ -36,7 +36,7 @@ use Rattle.build.specs.Made.{Made}
 use Rattle.group.specs.Class.{ClassReady, MakesClass}
 use Rattle.stream.specs.declared.collector.Collector.{Collector}
 use Rattle.stream.specs.declared.collector.Collector.the-variants.{Len, Large}
-use Rattle.stream.specs.Map.{frontPart, building}
+use Rattle.map.specs.Map.{frontPart, building}
 use Rattle.stream.specs.Collector.{isLarge, Open, Feeds}
 use Rattle.stream.specs.CollectorLaws.{feeds-beside, feeds-halt, feeds-none, feeds-large, feeds-open, feeds-lent}
 use Rattle.stream.specs.Tails.{tail, lent}

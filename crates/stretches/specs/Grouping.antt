@@ -15,7 +15,7 @@ use Rattle.queries.specs.Places.{arrayTrees, Pairs}
 use Rattle.spec_stages.specs.Group.{Class}
 use Rattle.spec_stages.specs.Flat.{members}
 use Rattle.stream.specs.declared.collector.Collector.{Collector}
-use Rattle.stream.specs.Map.{frontPart}
+use Rattle.map.specs.Map.{frontPart}
 use Rattle.stream.specs.Collector.{Open, Feeds}
 use Rattle.stream.specs.Feed.{Planned}
 use Rattle.arrange.specs.Index.{numbersAt}

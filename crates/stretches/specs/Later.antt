@@ -13,7 +13,7 @@ use Rattle.spec_stages.specs.Stages.{State, going, large, long, stages}
 use Rattle.stream.specs.declared.collector.Collector.{Collector}
 use Rattle.stream.specs.declared.collector.Collector.the-variants.{Len}
 use Rattle.spec_stages.specs.Stretch.{behind}
-use Rattle.stream.specs.Map.{endPart}
+use Rattle.map.specs.Map.{endPart}
 use Rattle.stream.specs.Collector.{Collects}
 use Rattle.stream.specs.Feed.{Planned}
 use Rattle.stretches.specs.declared.ended.Ended.{Ended}

@@ -30,8 +30,8 @@ use Rattle.stream.specs.declared.collector.Collector.the-variants.{Len, Over, L
 use Rattle.spec_stages.specs.Stretch.{before, behind}
 use Rattle.spec_stages.specs.StretchLaws.{before-behind, before-short, stretch, stages-large, stages-long, shorter, behind-ok}
 use Rattle.spec_stages.specs.LeaveLaws.{group-step, group-long}
-use Rattle.stream.specs.Map.{treesMax, endPart, collectorAt}
-use Rattle.stream.specs.MapLaws.{group-fits}
+use Rattle.map.specs.Map.{treesMax, endPart, collectorAt}
+use Rattle.map.specs.MapLaws.{group-fits}
 use Rattle.stream.specs.Collector.{isLarge, ends, Collects, Fed}
 use Rattle.stream.specs.Feed.{Planned}
 use Rattle.arrange.specs.Index.{Collected}

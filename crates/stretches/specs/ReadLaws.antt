@@ -16,7 +16,7 @@ use Rattle.queries.specs.Places.{arrayTrees}
 use Rattle.queries.specs.TreesLaws.{array-before}
 use Rattle.paths.specs.ComparedLaws.{is-none}
 use Rattle.spec_stages.specs.Group.{Class}
-use Rattle.stream.specs.Map.{treesMax, frontPart}
+use Rattle.map.specs.Map.{treesMax, frontPart}
 use Rattle.arrange.specs.Index.{sizeOf}
 use Rattle.arrange.specs.Index.{numbersAt}
 use Rattle.arrange.specs.Arrange.{numbered, arranged, treesOf, numberBytes, Arranged}

@@ -19,7 +19,7 @@ use Rattle.spec_stages.specs.Stages.{isGroup, State, going, after, stages}
 use Rattle.stream.specs.declared.collector.Collector.{Collector}
 use Rattle.stretches.specs.declared.next.StretchAt.{StretchAt}
 use Rattle.spec_stages.specs.Stretch.{before}
-use Rattle.stream.specs.Map.{treesMax, rooms, tailMin, groupMin}
+use Rattle.map.specs.Map.{treesMax, rooms, tailMin, groupMin}
 use Rattle.stream.specs.Collector.{Fed}
 use Rattle.stream.specs.Feed.{Planned}
 use Rattle.arrange.specs.Arrange.{Arranged}

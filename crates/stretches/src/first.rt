@@ -7,12 +7,12 @@ use areas::area::copy_in;
 use areas::area::field_end;
 use areas::span::Span;
 use format::limits::Limits;
+use map::map::Map;
 use queries::stage::StageAt;
 use queries::stage::stage_at;
 use stream::collector::Collector;
 use stream::collector::is_large;
 use stream::feed::feed;
-use stream::map::Map;
 
 /// Whether the stage is a group.
 fn is_group(stage: StageAt) -> bool

@@ -11,10 +11,10 @@ use areas::number::two_at;
 use areas::span::Span;
 use arrange::index::Index;
 use group::class::class_tree;
+use map::map::Map;
 use stream::collector::Collector;
 use stream::collector::is_large;
 use stream::feed::feed;
-use stream::map::Map;
 
 /// How far the array is read: where the next tree stands, and how many stand before it.
 pub struct Reached {

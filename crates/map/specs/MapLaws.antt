@@ -2,7 +2,7 @@
 use Prim.Native.Nat.{ℕ, _+_, _≤_, _<_}
 use native.Mathlib.Omega.{arith}
 use Rattle.spec_trees.specs.Limits.{stagesMax, workMin}
-use Rattle.stream.specs.Map.{rooms, tailMin, groupMin}
+use Rattle.map.specs.Map.{rooms, tailMin, groupMin}
 
 -- the first stretch: a room for each stage, those for building, and the end part
 pub first-fits : (n : ℕ) → n ≤ stagesMax → rooms n + tailMin ≤ workMin

@@ -2,7 +2,7 @@
 -- numbers stands here alone. That all fits is shown in MapLaws.
 use Prim.Native.Nat.{ℕ, _+_, _-_, _*_}
 use Rattle.spec_trees.specs.Limits.{arrayMax, treeMax}
-use Rattle.stream.specs.declared.map.Parts.{Parts}
+use Rattle.map.specs.declared.map.Parts.{Parts}
 
 -- the trees of an array of the largest size, without its head
 abbrev pub treesMax : ℕ

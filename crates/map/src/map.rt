@@ -2,7 +2,7 @@
 //! the end of every lent tail is the collector. Between them stand the rooms of the stages' trees and those for
 //! building, of `Limits::TREE` bytes each. `specs/MapLaws` shows that all fits.
 ghost use mathlib.Core.Path.{_≡_};
-ghost use Rattle.stream.specs.Map.{parts};
+ghost use Rattle.map.specs.Map.{parts};
 use format::limits::Limits;
 
 /// The parts of the work area that stand at fixed places, by name.

@@ -1,0 +1,4 @@
+-- Definitions.
+pub mod Map
+-- Laws.
+pub mod MapLaws

@@ -1,0 +1,2 @@
+//! Where the parts of the work area stand.
+pub mod map;
