@@ -21,7 +21,7 @@ use Rattle.group.specs.Keys.{FewPairs}
 use Rattle.map.specs.Map.{treesMax, frontPart}
 use Rattle.arrange.specs.declared.arrange.Filled.{Filled}
 use Rattle.arrange.specs.Links.{Spot, elements, up, Walk}
-use Rattle.arrange.specs.Index.{numbersAt, base, nextAt, Index, Collected}
+use Rattle.arrange.specs.Index.{numbersAt, base, nextAt, subsetsMax, Index, Collected}
 use Rattle.arrange.specs.Entering.{Stood}
 
 -- ---- trees with their numbers
@@ -86,7 +86,7 @@ pub record Subset (w : List ℕ) (n m : ℕ) (f : Filled) : Type 0 where
   pub trees-ok : AllowedA trees
   pub trees-is : Is w base (base + n) (arrayTrees trees)
   pub index : Index w grouping trees
-  pub below : m < 16
+  pub below : m < subsetsMax
   pub room : Room w f (length (arrayTrees (flat (scan grouping m [] trees))))
 
 abbrev pub SubsetArranged : (w v : List ℕ) (n m : ℕ) (f r : Filled) → Type 0

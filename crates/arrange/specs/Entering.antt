@@ -17,7 +17,7 @@ use Rattle.queries.specs.Places.{pairsBytes}
 use Rattle.spec_stages.specs.Group.{key, alike, sum}
 use Rattle.map.specs.Map.{treesMax}
 use Rattle.arrange.specs.Links.{Spot, down, firstOf, Walk}
-use Rattle.arrange.specs.Index.{base, backAt, nextAt, slots, headAt, countAt, sizeOf, standing, slot, mark, Index, Entering, Collected}
+use Rattle.arrange.specs.Index.{base, backAt, nextAt, slots, headAt, subsetsMax, countAt, sizeOf, standing, slot, mark, Index, Entering, Collected}
 
 -- r is where the head of the tree's slot stands
 abbrev pub HeadIs : (q : List ℕ) (keysAt : Span) (w : List ℕ) (treeAt : Span) → ℕ → Type 0
@@ -69,7 +69,7 @@ Linked w v y x = StoredIf (y ≢ 0) w v (nextAt y) x
 
 -- the classes of the subset m, if it is one, are one more
 abbrev pub Counted : (w v : List ℕ) (m : ℕ) → Type 0
-Counted w v m = StoredIf (m < 16) w v (countAt m) (twoAt w (countAt m) + 1)
+Counted w v m = StoredIf (m < subsetsMax) w v (countAt m) (twoAt w (countAt m) + 1)
 
 -- the tree has entered
 pub record Enters (w v q : List ℕ) (keysAt treeAt : Span) : Type 0 where
@@ -79,7 +79,7 @@ pub record Enters (w v q : List ℕ) (keysAt treeAt : Span) : Type 0 where
 -- ---- no tree is entered, and all are
 pub record Cleared (w v : List ℕ) : Type 0 where
   pub blank : (h : ℕ) → h < slots → twoAt v (headAt h) ≡ 0
-  pub uncounted : (m : ℕ) → m < 16 → twoAt v (countAt m) ≡ 0
+  pub uncounted : (m : ℕ) → m < subsetsMax → twoAt v (countAt m) ≡ 0
   pub beyond : drop base v ≡ drop base w
 
 pub record EntersAll (w v q : List ℕ) (keysAt : Span) (n : ℕ) : Type 0 where

@@ -28,7 +28,7 @@ use Rattle.arrange.specs.LinksLaws.{first-step}
 use Rattle.arrange.specs.EnterLaws.{apart-found, rising-left}
 use Rattle.arrange.specs.SpotsLaws.{spots-append, spots-elements, first-unseen}
 use Rattle.arrange.specs.IndexLaws.{rising-below, spots-entered}
-use Rattle.arrange.specs.Index.{base, backAt, nextAt, markAt, slots, headsAt, headAt, countsAt, countAt, sizeOf, standing, slot, mark, Marks, Index, Entering}
+use Rattle.arrange.specs.Index.{base, backAt, nextAt, markAt, slots, headsAt, headAt, subsetsMax, countsAt, countAt, sizeOf, standing, slot, mark, Marks, Index, Entering}
 use Rattle.arrange.specs.Entering.{lastLike, Stood, StoredIf, Linked, Counted, Enters}
 use Rattle.areas.specs.NumberLaws.{Put, put}
 use Rattle.arrange.specs.StandingLaws.{six, all-stood}
@@ -57,12 +57,12 @@ pub mark-first : (m y : ℕ) → y ≡ 0 → m ≡ mark m (eqb y 0)
 unfolding mark
 mark-first m y z = sym (rw (eq-eqb y 0 z) refl)
 
-pub mark-later : (m y : ℕ) → (y ≡ 0 → ⊥) → 16 ≡ mark m (eqb y 0)
+pub mark-later : (m y : ℕ) → (y ≡ 0 → ⊥) → subsetsMax ≡ mark m (eqb y 0)
 unfolding mark
 mark-later m y n = sym (rw (ne-eqb y 0 n) refl)
 
 -- few pairs have few subsets
-pub sum-small : (gs : List Pair) (t : Tree) → FewPairs gs → sum (key gs t) < 16
+pub sum-small : (gs : List Pair) (t : Tree) → FewPairs gs → sum (key gs t) < subsetsMax
 sum-small gs t f = omega (arith, sum-below gs t, pow-mono {i = length gs} {j = 4} f)
 
 -- no tree was found exactly if none of those seen is alike
@@ -135,7 +135,7 @@ module _ {w q : List ℕ} {keysAt treeAt : Span} (e : Entering w q keysAt treeAt
   mark-is = ms ∙ ap (λ n. mark (sum (key gs (e .tree))) (eqb n 0)) ys ∙ ap (mark (sum (key gs (e .tree)))) (unlike-found gs (e .seen) (e .tree))
 
   -- the counts are as they were
-  counts-stay : (i : ℕ) → i < 16 → twoAt w5 (countAt i) ≡ length (scan gs i [] (e .seen))
+  counts-stay : (i : ℕ) → i < subsetsMax → twoAt w5 (countAt i) ≡ length (scan gs i [] (e .seen))
   counts-stay i l =
       let k = places e in
       let j = head-places in
@@ -143,17 +143,17 @@ module _ {w q : List ℕ} {keysAt treeAt : Span} (e : Entering w q keysAt treeAt
       p5 .others (countAt i) (λ n. inr (omega arith)) ∙ p4 .above (countAt i) (omega arith) ∙ p3 .above (countAt i) (omega arith) ∙ p2 .above (countAt i) (omega arith)
       ∙ p1 .above (countAt i) (omega arith) ∙ e .index .counts i l
 
-  pub count-small : m < 16 → twoAt w5 (countAt m) < treesMax
+  pub count-small : m < subsetsMax → twoAt w5 (countAt m) < treesMax
   count-small l =
       let k = places e in
       omega (arith, counts-stay m l, count-most gs m [] (e .seen), six-each (e .seen), e .seen-is .ends)
 
   -- one class more, if the tree begins one
   module _ {v : List ℕ} (p6 : Counted w5 v m) where
-    uncounted : (b : ℕ) → b + 2 ≤ countsAt → twoAt v b ≡ twoAt w5 b
-    uncounted b l = p6 .others b (λ n. inl (omega arith))
+    below-counts : (b : ℕ) → b + 2 ≤ countsAt → twoAt v b ≡ twoAt w5 b
+    below-counts b l = p6 .others b (λ n. inl (omega arith))
 
-    counted : (i : ℕ) → i < 16 → (k : ℕ) (first : Bool) → m ≡ mark k first → twoAt v (countAt i) ≡ length (scan gs i [] (e .seen)) + one (eqb k i && first)
+    counted : (i : ℕ) → i < subsetsMax → (k : ℕ) (first : Bool) → m ≡ mark k first → twoAt v (countAt i) ≡ length (scan gs i [] (e .seen)) + one (eqb k i && first)
     unfolding mark
     counted i l k false z =
         p6 .others (countAt i) (λ n. absurd (omega arith)) ∙ counts-stay i l ∙ omega (arith, ap one (and-false (eqb k i)))
@@ -170,7 +170,7 @@ module _ {w q : List ℕ} {keysAt treeAt : Span} (e : Entering w q keysAt treeAt
             (λ x. let j = ltb-true i k x in inl (omega arith))
             (λ x. let j = ltb-false i k x in inr (omega (arith, d)))
 
-    counts-grown : (i : ℕ) → i < 16 → twoAt v (countAt i) ≡ length (scan gs i [] (e .seen ++ (e .tree ∷ [])))
+    counts-grown : (i : ℕ) → i < subsetsMax → twoAt v (countAt i) ≡ length (scan gs i [] (e .seen ++ (e .tree ∷ [])))
     unfolding begins unlike
     counts-grown i l = counted i l (sum (key gs (e .tree))) (unlike gs (e .seen) (e .tree)) mark-is ∙ sym (count-behind gs i [] (e .seen) (e .tree))
 
@@ -179,17 +179,17 @@ module _ {w q : List ℕ} {keysAt treeAt : Span} (e : Entering w q keysAt treeAt
     stays b l k =
         let i = places e in
         let j = head-places in
-        uncounted b (omega arith) ∙ p5 .others b k ∙ p4 .below b (omega arith) ∙ p3 .below b (omega arith) ∙ p2 .below b (omega arith) ∙ p1 .below b (omega arith)
+        below-counts b (omega arith) ∙ p5 .others b k ∙ p4 .below b (omega arith) ∙ p3 .below b (omega arith) ∙ p2 .below b (omega arith) ∙ p1 .below b (omega arith)
 
     -- its own three
     own : (b : ℕ) → nextAt y + 2 ≤ b → b + 2 ≤ headsAt → twoAt v b ≡ twoAt w3 b
-    own b l u = let j = head-places in uncounted b (omega arith) ∙ p5 .others b (λ n. inr l) ∙ p4 .below b (omega arith)
+    own b l u = let j = head-places in below-counts b (omega arith) ∙ p5 .others b (λ n. inr l) ∙ p4 .below b (omega arith)
 
     tops : (i : ℕ) → i < slots → twoAt v (headAt i) ≡ cond (eqb (slot gs (e .tree)) i) x (twoAt w (headAt i))
     tops i l =
         let k = places e in
         let a = yl .1 in
-        let behind = uncounted (headAt i) (omega arith) ∙ p5 .others (headAt i) (λ n. inr (omega arith)) in
+        let behind = below-counts (headAt i) (omega arith) ∙ p5 .others (headAt i) (λ n. inr (omega arith)) in
         behind
         ∙ split (eqb (slot gs (e .tree)) i)
         (λ z. let d = eqb-true (slot gs (e .tree)) i z in ap (λ n. twoAt w4 (headAt n)) (sym d) ∙ ap (twoAt w4) (sym hs) ∙ p4 .here ∙ sym (rw z refl))
@@ -240,7 +240,7 @@ module _ {w q : List ℕ} {keysAt treeAt : Span} (e : Entering w q keysAt treeAt
         let a = yl .1 in
         record {
           nexts = subst (λ n. Entered 6 (λ a. twoAt w (nextAt a)) (λ a. twoAt v (nextAt a)) n x) ys record {
-            linked = λ n. uncounted (nextAt y) (omega arith) ∙ p5 .set n;
+            linked = λ n. below-counts (nextAt y) (omega arith) ∙ p5 .set n;
             ended = own (nextAt x) (omega arith) (omega arith) ∙ p3 .below (nextAt x) (omega arith) ∙ p2 .here;
             before = λ o l. let b = yl .0 (λ z. omega arith) in stays (nextAt o) (omega arith) (λ n. inl (omega arith));
             between = λ o l u. stays (nextAt o) (omega arith) (λ n. let b = yl .0 n in inr (omega arith));

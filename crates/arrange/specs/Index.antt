@@ -32,18 +32,18 @@ abbrev pub base : ℕ
 base = collectorAt workMin
 
 -- how far below a tree its own numbers begin
-abbrev pub below : ℕ
-below = base - frontPart
+abbrev pub distance : ℕ
+distance = base - frontPart
 
 -- for the tree at a: the tree before it with the same slot, the tree behind it with the same key, and its mark
 abbrev pub backAt : ℕ → ℕ
-backAt a = a - below
+backAt a = a - distance
 
 abbrev pub nextAt : ℕ → ℕ
-nextAt a = a - (below - 2)
+nextAt a = a - (distance - 2)
 
 abbrev pub markAt : ℕ → ℕ
-markAt a = a - (below - 4)
+markAt a = a - (distance - 4)
 
 -- the last tree that was entered with the slot h
 abbrev pub slots : ℕ
@@ -55,6 +55,10 @@ headsAt = frontPart + arrayMax
 abbrev pub headAt : ℕ → ℕ
 headAt h = headsAt + 2 * h
 
+-- the subsets of the grouping pairs are below this
+abbrev pub subsetsMax : ℕ
+subsetsMax = 16
+
 -- how many classes the subset m has
 abbrev pub countsAt : ℕ
 countsAt = headsAt + 2 * slots
@@ -64,7 +68,7 @@ countAt m = countsAt + 2 * m
 
 -- the code's constants of these names: `index::all` answers this
 abbrev pub parts : Parts
-parts = record { numbers = numbersAt; heads = headsAt; slots = slots; counts = countsAt; trees = base; back = below; next = below - 2; mark = below - 4 }
+parts = record { numbers = numbersAt; heads = headsAt; slots = slots; subsets = subsetsMax; counts = countsAt; trees = base; back = distance; next = distance - 2; mark = distance - 4 }
 
 -- ---- what they are
 abbrev pub sizeOf : Tree → ℕ
@@ -77,9 +81,9 @@ standing ts = spots sizeOf base ts
 abbrev pub slot : List Pair → Tree → ℕ
 slot gs t = keyHash (key gs t) % slots
 
--- the mark of a tree: its subset if it begins a class, otherwise 16
+-- the mark of a tree: its subset if it begins a class, otherwise a number that no subset is
 unfoldable pub mark : ℕ → Bool → ℕ
-mark m first = cond first m 16
+mark m first = cond first m subsetsMax
 
 -- each tree's mark, behind those that were seen before it
 abbrev pub Marks : List Pair → (ℕ → ℕ) → List Tree → List (Spot Tree) → Type 0
@@ -89,7 +93,7 @@ Marks gs marks seen (s ∷ ss) = (marks (s .0) ≡ mark (sum (key gs (s .1))) (u
 pub record Index (w : List ℕ) (gs : List Pair) (ts : List Tree) : Type 0 where
   pub links : Indexed (alike gs) (slot gs) slots (λ a. twoAt w (nextAt a)) (λ a. twoAt w (backAt a)) (λ h. twoAt w (headAt h)) (standing ts)
   pub marks : Marks gs (λ a. twoAt w (markAt a)) [] (standing ts)
-  pub counts : (m : ℕ) → m < 16 → twoAt w (countAt m) ≡ length (scan gs m [] ts)
+  pub counts : (m : ℕ) → m < subsetsMax → twoAt w (countAt m) ≡ length (scan gs m [] ts)
 
 -- ---- a tree enters, behind those that are entered
 pub record Entering (w q : List ℕ) (keysAt treeAt : Span) : Type 0 where

@@ -26,7 +26,7 @@ use Rattle.arrange.specs.declared.arrange.Filled.{Filled}
 use Rattle.arrange.specs.Links.{Spot, spots, end, elements, up, passing, Walk}
 use Rattle.arrange.specs.SpotsLaws.{spots-append, spots-elements}
 use Rattle.arrange.specs.IndexLaws.{class-walk, class-elements}
-use Rattle.arrange.specs.Index.{base, nextAt, markAt, countAt, sizeOf, standing, mark, Marks, Index}
+use Rattle.arrange.specs.Index.{base, nextAt, markAt, subsetsMax, countAt, sizeOf, standing, mark, Marks, Index}
 use Rattle.arrange.specs.Entering.{Stood}
 use Rattle.arrange.specs.Arrange.{numbered, arranged, indexAt, Grows, Following, Follows, Subset}
 use Rattle.arrange.specs.StandingLaws.{six, length-cons, length-none, end-is, all-stood}
@@ -35,10 +35,10 @@ use Rattle.arrange.specs.FrontLaws.{length-both, numbered-trees, arrange
 use Rattle.arrange.specs.EnteringLaws.{sum-small}
 
 -- ---- the mark tells whether a tree begins a class of the subset
-mark-begins : (m k : ℕ) (first : Bool) → m < 16 → k < 16 → eqb (mark m first) k ≡ (eqb m k && first)
+mark-begins : (m k : ℕ) (first : Bool) → m < subsetsMax → k < subsetsMax → eqb (mark m first) k ≡ (eqb m k && first)
 unfolding mark
 mark-begins m k true h l = sym (and-true (eqb m k))
-mark-begins m k false h l = ne-eqb 16 k (λ z. omega arith) ∙ sym (and-false (eqb m k))
+mark-begins m k false h l = ne-eqb subsetsMax k (λ z. omega arith) ∙ sym (and-false (eqb m k))
 
 -- the mark of the tree behind ss
 marks-behind : (gs : List Pair) (marks : ℕ → ℕ) (seen : List Tree) (ss rs : List (Spot Tree)) → Marks gs marks seen (ss ++ rs) → Marks gs marks (seen ++ elements ss) rs

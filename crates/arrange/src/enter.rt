@@ -13,7 +13,7 @@ ghost use Rattle.areas.specs.Number.{twoAt};
 ghost use Rattle.queries.specs.Places.{pairsBytes, HoldsAt, OkAt};
 ghost use Rattle.group.specs.Keys.{FewPairs};
 ghost use Rattle.map.specs.Map.{treesMax};
-ghost use Rattle.arrange.specs.Index.{base, headsAt, countsAt, countAt, Entering, Collected};
+ghost use Rattle.arrange.specs.Index.{base, headsAt, subsetsMax, countsAt, countAt, Entering, Collected};
 ghost use Rattle.arrange.specs.Entering.{HeadIs, Search, LastIs, MarkIs, Linked, Counted, Enters, Cleared, EntersAll};
 use crate::index::Index;
 use areas::area::clear;
@@ -52,15 +52,15 @@ fn last_like<'a>(work: &'a [u8], query: &'a [u8], keys: Span, tree: Span, last: 
     0
 }
 
-/// The mark of a tree: its subset if it begins a class, otherwise 16, which no subset is.
+/// The mark of a tree: its subset if it begins a class, otherwise a number that no subset is.
 fn mark_of(query: &[u8], keys: Span, work: &[u8], tree: Span, like: usize) -> usize
     requires { ⌜ OkAt FewPairs pairsBytes (now query) keys × HoldsAt treeBytes (now work) tree ⌝ }
-    ensures { λ r. ⌜ (r ≤ 16) × MarkIs (now (query .entry)) keys (now (work .entry)) tree like r ⌝ }
+    ensures { λ r. ⌜ (r ≤ subsetsMax) × MarkIs (now (query .entry)) keys (now (work .entry)) tree like r ⌝ }
 {
     if like == 0 {
         return subset(query, keys, work, tree);
     }
-    16
+    Index::SUBSETS
 }
 
 /// The tree at `like`, unless that is 0, gets the tree at `at` as the next with its key.
@@ -75,10 +75,10 @@ fn link(work: &mut [u8], like: usize, at: usize)
 
 /// One class more of the subset, if the mark is one.
 fn count(work: &mut [u8], mark: usize)
-    requires { ⌜ (length (now work) ≡ workMin) × (mark < 16 → twoAt (now work) (countAt mark) < treesMax) ⌝ }
+    requires { ⌜ (length (now work) ≡ workMin) × (mark < subsetsMax → twoAt (now work) (countAt mark) < treesMax) ⌝ }
     ensures { λ _. ⌜ Counted (now (work .entry)) (now (work .exit)) mark ⌝ }
 {
-    if mark < 16 {
+    if mark < Index::SUBSETS {
         let at = Index::COUNTS + 2 * mark;
         put_two(work, at, two_at(work, at) + 1);
     }

@@ -18,7 +18,10 @@ impl Index {
     /// How many slots there are.
     pub const SLOTS: usize = 2048;
 
-    /// How many classes each subset of the grouping pairs has.
+    /// The subsets of the grouping pairs are below this.
+    pub const SUBSETS: usize = 16;
+
+    /// How many classes each subset has.
     pub const COUNTS: usize = Index::HEADS + 2 * Index::SLOTS;
 
     /// The collected trees.
@@ -39,6 +42,7 @@ pub struct Parts {
     pub numbers: usize,
     pub heads: usize,
     pub slots: usize,
+    pub subsets: usize,
     pub counts: usize,
     pub trees: usize,
     pub back: usize,
@@ -54,6 +58,7 @@ pub fn all() -> Parts
         numbers: Index::NUMBERS,
         heads: Index::HEADS,
         slots: Index::SLOTS,
+        subsets: Index::SUBSETS,
         counts: Index::COUNTS,
         trees: Index::TREES,
         back: Index::BACK,

@@ -8,17 +8,18 @@ use Rattle.map.specs.declared.map.Parts.{Parts}
 abbrev pub treesMax : ℕ
 treesMax = arrayMax - 3
 
--- kept free behind an array: two bytes for each tree that it may have
-abbrev pub reserved : ℕ
-reserved = 5460
+-- behind an array, a number of two bytes for each tree that it may have: at the front those of the arranged trees, at
+-- the end kept free
+abbrev pub numbers : ℕ
+numbers = 5460
 
 -- the front part, in a stretch that begins with a group: the array that entered it
 abbrev pub frontPart : ℕ
-frontPart = arrayMax + reserved
+frontPart = arrayMax + numbers
 
 -- the end part, of every tail: the collected array
 abbrev pub endPart : ℕ
-endPart = arrayMax + reserved
+endPart = arrayMax + numbers
 
 -- where the collector begins, in an area of n bytes
 abbrev pub collectorAt : ℕ → ℕ
@@ -46,4 +47,4 @@ groupMin = frontPart + tailMin
 
 -- the code's constants of these names: `map::all` answers this
 abbrev pub parts : Parts
-parts = record { trees = treesMax; reserved = reserved; front = frontPart; end = endPart }
+parts = record { trees = treesMax; numbers = numbers; front = frontPart; end = endPart }

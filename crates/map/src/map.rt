@@ -12,20 +12,21 @@ impl Map {
     /// The most bytes that the trees of an array take: its head is not among them.
     pub const TREES: usize = Limits::ARRAY - 3;
 
-    /// Bytes kept free behind an array: later requests need a number of two bytes for each tree there.
-    pub const RESERVED: usize = 5460;
+    /// Behind an array, a number of two bytes for each tree that it may have. At the front the arranged trees have
+    /// theirs there; at the end the bytes are kept free for a later request.
+    pub const NUMBERS: usize = 5460;
 
     /// The front part, before the trees of a later stretch: the array that entered its group.
-    pub const FRONT: usize = Limits::ARRAY + Map::RESERVED;
+    pub const FRONT: usize = Limits::ARRAY + Map::NUMBERS;
 
     /// The end part of every lent tail: the collected array.
-    pub const END: usize = Limits::ARRAY + Map::RESERVED;
+    pub const END: usize = Limits::ARRAY + Map::NUMBERS;
 }
 
 /// The parts as values, so that a contract can speak of them all at once.
 pub struct Parts {
     pub trees: usize,
-    pub reserved: usize,
+    pub numbers: usize,
     pub front: usize,
     pub end: usize,
 }
@@ -36,7 +37,7 @@ pub fn all() -> Parts
 {
     Parts {
         trees: Map::TREES,
-        reserved: Map::RESERVED,
+        numbers: Map::NUMBERS,
         front: Map::FRONT,
         end: Map::END,
     }

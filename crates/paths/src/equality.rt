@@ -274,7 +274,7 @@ pub fn same_keys<'a>(
     same_paths(query, path, area, tree, path2, area2, tree2)
 }
 
-/// Whether one path gives the same of two trees: so a group compares each tree with each.
+/// Whether one path gives the same of two trees: so a group compares a tree with those of its slot.
 pub fn same_values<'a>(
     query: &'a [u8],
     path: Span,
