@@ -3,26 +3,30 @@
  *
  * The idea
  * --------
- * A machine lends the engine five areas of bytes: a query, an input, a
- * joined array, a work area and a result area. The engine runs the query,
+ * A machine lends the engine six areas: a query, an input, a joined array, a
+ * work area, a result area and a position area. The engine runs the query,
  * none to eight stages, over the input and leaves the result in the result
- * area, or refuses by a number. A second call joins the results of such runs:
- * it is lent a query, two arrays, a work area and a result area. The engine
- * takes no heap, keeps no state between calls, starts no thread, and calls one
+ * area, and in the position area where each of its trees came from; or it
+ * refuses by a number. A second call joins the results of such runs: it is
+ * lent a query, two arrays, a work area and a result area. The engine takes
+ * no heap, keeps no state between calls, starts no thread, and calls one
  * function that is not its own, memset. Calls with different areas may run at
  * the same time.
  *
  * Every area is the caller's, before, during and after a call. An area is a
- * pointer and a length. A length may be anything from 0 up; a pointer is
- * never null, also where the length is 0. The work area and the result area
- * overlap no other area. Any bytes may stand in any of them: no content
- * makes a call do anything but answer.
+ * pointer and a length: in bytes, but of the position area in entries, which
+ * are numbers of 16 bits in the machine's own byte order. A length may be
+ * anything from 0 up; a pointer is never null, also where the length is 0,
+ * and that of the position area is aligned as uint16_t is. The work area, the
+ * result area and the position area overlap no other area. Anything may stand
+ * in any of them: no content makes a call do anything but answer.
  *
- * The query and the arrays are only read. What the work area and the result
- * area hold after a call is fixed by the arguments alone, and stands in the
- * table below. That is proved of the library's code, for all bytes and all
- * lengths; docs/CERTIFICATE.md says how. Every call ends, but the time of a
- * run has no bound: unwinds multiply trees, and a call cannot be cancelled.
+ * The query and the arrays are only read. What the work area, the result area
+ * and the position area hold after a call is fixed by the arguments alone, and
+ * stands in the table below. That is proved of the library's code, for all
+ * bytes and all lengths; docs/CERTIFICATE.md says how. Every call ends, but
+ * the time of a run has no bound: unwinds multiply trees, and a call cannot be
+ * cancelled.
  *
  * Byte forms
  * ----------
@@ -38,9 +42,12 @@
  * is 0. TQUERY_NUMBER and TQUERY_LENGTH take it apart.
  *
  *  number  cause, tested in this order                   result     work
- *  ------  --------------------------------------------  ---------  --------
+ *                                                        and
+ *                                                        positions
+ *  ------  --------------------------------------------  ---------  ---------
  *   0      none: accepted                                see below  zero
  *   1      work area under 65,536 bytes                  as it was  as it was
+ *  11      position area under 2,730 entries             as it was  as it was
  *   2      query over 4,096 bytes                        as it was  zero
  *   3      query malformed                               as it was  zero
  *   4      input over 16,384 bytes                       as it was  zero
@@ -53,12 +60,36 @@
  *          the result area
  *
  * For tquery_regroup 3 is also a query that is not one such group alone, 4 and
- * 5 are of the first array and then of the second, 6 and 7 do not come, and 9
- * is the two arrays joined over 16,384 bytes, which is tested before 8.
+ * 5 are of the first array and then of the second, 6, 7 and 11 do not come,
+ * and 9 is the two arrays joined over 16,384 bytes, which is tested before 8.
  *
  * After 0 the result stands at the start of the result area, and the bytes
- * beyond its length are as they were. "Zero" is the whole area, of whatever
- * length.
+ * beyond its length are as they were; the position area begins with one entry
+ * for each tree of the result, and the entries beyond them are as they were.
+ * "Zero" is the whole area, of whatever length.
+ *
+ * Positions
+ * ---------
+ * Entry n of the position area, from 0, says where tree n of the result came
+ * from: the position, from 1, of a tree of the input. Match, unwind, project
+ * and lookup hand on the position of the tree that they work on, so that all
+ * that an unwind makes of one tree bear the same. The tree of a group bears
+ * the position of the first member of its class, in the order in which the
+ * members entered the group; behind an earlier group that need not be the
+ * smallest of theirs. An array holds at most 2,730 trees, of six bytes each,
+ * so TQUERY_POSITIONS_MIN entries are enough for every run.
+ *
+ * A maker prints the position beside the line, and whoever reads the list
+ * finds the job that the line stems from: host/c/worklist.c is an example.
+ * For that a query may leave out what it was grouped or chosen by.
+ *
+ * A query without a group treats each tree alone. Two accepted runs of it,
+ * with one joined array and over inputs of as many trees each: if the trees at
+ * a position are equal, the result trees that bear it are equal, and in equal
+ * order, however the other trees differ. A job that did not change gives the
+ * lines that it gave before.
+ *
+ * The other calls take no position area.
  *
  * Trays
  * -----
@@ -85,9 +116,9 @@
  * over them.
  *
  * memset. It is the one symbol that the library leaves to the machine's C
- * runtime. tquery_run and tquery_regroup clear the work area and the result
- * area by it, and what is said above of bytes that are zero rests on it. A
- * machine without a C runtime provides a function of that name and meaning:
+ * runtime. tquery_run and tquery_regroup clear the areas that they write by
+ * it, and what is said above of areas that are zero rests on it. A machine
+ * without a C runtime provides a function of that name and meaning:
  *
  *     void *memset(void *area, int value, size_t length)
  *     {
@@ -106,7 +137,8 @@
  * Stack. Every frame of the library has a fixed size, and the limits of the
  * byte forms bound how deep calls nest. How many bytes that makes is measured,
  * not proved. The most that was seen in cases made to go deep and in random
- * ones, with a return address and four arguments on the stack counted in:
+ * ones, with a return address and the arguments on the stack counted in, six
+ * of tquery_run and four of tquery_regroup:
  *
  *     tquery_run          8,816 bytes
  *     tquery_regroup      2,816 bytes
@@ -130,11 +162,12 @@
 extern "C" {
 #endif
 
-/* Limits, in bytes. */
-#define TQUERY_WORK_MIN 65536   /* the least work area */
-#define TQUERY_QUERY_MAX 4096   /* the largest query */
-#define TQUERY_ARRAY_MAX 16384  /* the largest input, joined array, result */
-#define TQUERY_TREE_MAX 2048    /* the largest tree */
+/* Limits, in bytes but where entries are said. */
+#define TQUERY_WORK_MIN 65536     /* the least work area */
+#define TQUERY_POSITIONS_MIN 2730 /* the least position area, in entries */
+#define TQUERY_QUERY_MAX 4096     /* the largest query */
+#define TQUERY_ARRAY_MAX 16384    /* the largest input, joined array, result */
+#define TQUERY_TREE_MAX 2048      /* the largest tree */
 
 /* No call was measured to use more stack, in bytes. Tested, not proved. */
 #define TQUERY_STACK_MAX 10240
@@ -151,6 +184,7 @@ extern "C" {
 #define TQUERY_TREE_LARGE 8
 #define TQUERY_GROUP_LONG 9
 #define TQUERY_RESULT_LONG 10
+#define TQUERY_POSITIONS_SHORT 11 /* tested after 1 and before 2 */
 
 /* An answer's number, and the length of its result. */
 #define TQUERY_NUMBER(answer) ((unsigned)((answer) >> 32))
@@ -161,9 +195,12 @@ extern "C" {
  *
  * query, input, joined: lent to be read; never changed.
  * work: 65,536 bytes or more, of any content; zero afterwards, over its whole
- *       length, unless the number is 1, and then it is as it was.
+ *       length, unless the number is 1 or 11, and then it is as it was.
  * result: of any length; what it holds afterwards is said in the table.
  *         16,384 bytes hold every result.
+ * positions: 2,730 entries or more, of any content; after 0 one for each tree
+ *            of the result, see Positions; else what the table says.
+ *            positions_length counts entries, not bytes.
  *
  * Returns the answer.
  */
@@ -171,7 +208,8 @@ uint64_t tquery_run(const uint8_t *query, size_t query_length,
                     const uint8_t *input, size_t input_length,
                     const uint8_t *joined, size_t joined_length,
                     uint8_t *work, size_t work_length,
-                    uint8_t *result, size_t result_length);
+                    uint8_t *result, size_t result_length,
+                    uint16_t *positions, size_t positions_length);
 
 /*
  * Groups two arrays again as one, by one group: see Trays.

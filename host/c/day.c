@@ -73,6 +73,9 @@ static const struct part trays[] = {PART(morning), PART(noon), PART(evening)};
 static uint8_t work[TQUERY_WORK_MIN];
 static uint8_t result[TQUERY_ARRAY_MAX];
 
+/* Where the trees of a result came from: a tray's positions mean nothing in the day's list, and are not read. */
+static uint16_t positions[TQUERY_POSITIONS_MIN];
+
 /* The list so far and the next one, in turn: a result overlaps no array that is read. */
 static uint8_t lists[2][TQUERY_ARRAY_MAX];
 
@@ -95,7 +98,8 @@ static struct part day(void)
         size_t length = accepted("run", tquery_run(query, sizeof query - 1,
                                                    trays[tray].bytes, trays[tray].length,
                                                    none, sizeof none - 1,
-                                                   work, sizeof work, result, sizeof result));
+                                                   work, sizeof work, result, sizeof result,
+                                                   positions, TQUERY_POSITIONS_MIN));
         length = accepted("regroup", tquery_regroup(group, sizeof group - 1,
                                                     list.bytes, list.length, result, length,
                                                     work, sizeof work, next, TQUERY_ARRAY_MAX));

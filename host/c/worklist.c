@@ -1,6 +1,7 @@
 /*
  * A worklist, by the engine: of some jobs those whose lens is chosen, a line
- * for each eye, with the shelf that the lens lies on.
+ * for each eye, with the shelf that the lens lies on and, in front, the
+ * position of the job that it stems from.
  *
  * From the repository's top: rt staticlib tquery, and then
  *
@@ -52,6 +53,7 @@ static const uint8_t stock[] =
 
 static uint8_t work[TQUERY_WORK_MIN];
 static uint8_t result[TQUERY_ARRAY_MAX];
+static uint16_t positions[TQUERY_POSITIONS_MIN];
 
 /* The tags that are read. */
 enum { ARRAY = 1, TREE = 2, TEXT = 6, LABEL = 7 };
@@ -123,6 +125,7 @@ static const char *words(unsigned number)
         "a tree was too large in a stretch",
         "an array entering a group over 16,384 bytes",
         "the last array over 16,384 bytes, or over the result area",
+        "position area under 2,730 entries",
     };
     return number < sizeof table / sizeof table[0] ? table[number] : "not in the table";
 }
@@ -130,7 +133,8 @@ static const char *words(unsigned number)
 int main(void)
 {
     uint64_t answer = tquery_run(LENT(query), LENT(jobs), LENT(stock),
-                                 work, sizeof work, result, sizeof result);
+                                 work, sizeof work, result, sizeof result,
+                                 positions, sizeof positions / sizeof *positions);
     if (TQUERY_NUMBER(answer) != TQUERY_ACCEPTED) {
         fprintf(stderr, "refused %u: %s\n", TQUERY_NUMBER(answer), words(TQUERY_NUMBER(answer)));
         return EXIT_FAILURE;
@@ -138,8 +142,9 @@ int main(void)
 
     struct part all = {result, TQUERY_LENGTH(answer)}, trees = {NULL, 0}, tree;
     take(&all, &trees);
-    printf("job   lens             eye    shelf\n");
-    while (take(&trees, &tree) == TREE) {
+    printf("nr  job   lens             eye    shelf\n");
+    for (size_t line = 0; take(&trees, &tree) == TREE; line++) {
+        printf("%2u  ", positions[line]);
         print_text(tree, "\1", 6);
         print_text(tree, "\2", 17);
         print_text(tree, "\3", 7);

@@ -9,6 +9,9 @@
 /* Refusal 1 is one test, so most cases have enough. */
 static const size_t work_lengths[8] = {65536, 65536, 65536, 65536, 65537, 70000, 65535, 0};
 
+/* So has refusal 11; the last choice is a length under the limit. */
+static const size_t positions_lengths[3] = {TQUERY_POSITIONS_MIN, TQUERY_POSITIONS_MIN + 1, POSITIONS_LONGEST};
+
 static const uint8_t tags[READ_AREAS] = {16, 1, 1};
 static const size_t limits[READ_AREAS] = {TQUERY_QUERY_MAX, TQUERY_ARRAY_MAX, TQUERY_ARRAY_MAX};
 
@@ -74,6 +77,12 @@ static void read_area(struct content *content, int area, const uint8_t *head)
     }
 }
 
+static size_t positions_length(const uint8_t *head)
+{
+    int choice = head[3] >> 6;
+    return choice < 3 ? positions_lengths[choice] : length_at(head + 1) % TQUERY_POSITIONS_MIN;
+}
+
 void case_read(struct fuzz_case *all, const uint8_t *data, size_t size)
 {
     uint8_t head[CASE_HEAD] = {0};
@@ -90,4 +99,5 @@ void case_read(struct fuzz_case *all, const uint8_t *data, size_t size)
     all->regroups = head[0] >> 7;
     all->work_length = work_lengths[head[0] & 7];
     all->result_length = head[0] >> 6 & 1 ? TQUERY_ARRAY_MAX : length_at(head + 1) % (RESULT_LONGEST + 1);
+    all->positions_length = positions_length(head);
 }

@@ -15,7 +15,8 @@
  *  3     bits 0 and 1, 2 and 3, 4 and 5: how the query, the input, the joined
  *        array is lengthened. 3: by zeros, to one byte past its limit. 2, of
  *        an array: what stands behind its head is repeated as often as the
- *        limit allows. Else not
+ *        limit allows. Else not. Bits 6 and 7: the position area's length, in
+ *        entries, see case.c; 3: bytes 1 and 2, modulo 2,730, too few
  *  4, 5  length of the query's bytes
  *  6, 7  length of the input's bytes
  *  8     the query's bytes, the input's, and the joined array's: all the rest
@@ -29,6 +30,7 @@
 #define CASE_HEAD 8
 #define WORK_LONGEST 70000
 #define RESULT_LONGEST 16400
+#define POSITIONS_LONGEST 20000 /* in entries */
 #define READ_LONGEST 20480 /* of the query, the input and the joined array; longer ones are cut */
 
 /* The areas that are only read; of a regrouping the last two are the first and the second array. */
@@ -43,6 +45,7 @@ struct fuzz_case {
     struct content read[READ_AREAS];
     size_t work_length;
     size_t result_length;
+    size_t positions_length; /* in entries; of a regrouping not used */
     int regroups;
 };
 

@@ -10,13 +10,19 @@
 #include <stdlib.h>
 #include <string.h>
 
-/* What a run was lent, a byte of its work area before it, and the engine's answer taken apart. */
+/*
+ * What a run was lent, a byte of its work area and an entry of its position area before it, and the engine's
+ * answer taken apart.
+ */
 struct run {
     const uint8_t *query, *input, *joined;
     size_t query_length, input_length, joined_length;
     uint8_t *work, *result;
     size_t work_length, result_length;
+    uint16_t *positions;
+    size_t positions_length;
     uint8_t work_before;
+    uint16_t entry_before;
     unsigned number;
     size_t length;
 };
@@ -27,6 +33,8 @@ static void past_result(struct run *run) { run->result[run->result_length] = 0; 
 static void before_result(struct run *run) { run->result[-1] = 0; }
 static void past_work(struct run *run) { run->work[run->work_length] = 0; }
 static void before_work(struct run *run) { run->work[-1] = 0; }
+static void past_positions(struct run *run) { run->positions[run->positions_length] = 0; }
+static void before_positions(struct run *run) { run->positions[-1] = 0; }
 static void past_query(struct run *run) { seen = run->query[run->query_length]; }
 static void before_joined(struct run *run) { seen = run->joined[-1]; }
 
@@ -51,6 +59,20 @@ static void clears_short_work(struct run *run)
     }
 }
 
+static void clears_work_at_11(struct run *run)
+{
+    if (run->number == 11) {
+        run->work[run->work_length / 2] = 0;
+    }
+}
+
+/* The query is tested before the position area. */
+static void answers_2_for_11(struct run *run)
+{
+    run->number = run->number == 11 && run->query_length > TQUERY_QUERY_MAX ? 2 : run->number;
+}
+
+static void answers_12(struct run *run) { run->number = run->number == 8 ? 12 : run->number; }
 static void answers_11(struct run *run) { run->number = run->number == 8 ? 11 : run->number; }
 static void refuses_with_length(struct run *run) { run->length += run->number == 9; }
 static void answers_5_for_4(struct run *run) { run->number = run->number == 4 ? 5 : run->number; }
@@ -107,6 +129,47 @@ static void result_by_work(struct run *run)
     }
 }
 
+/* Whether a run was accepted and gave a tree. */
+static int gave_a_tree(const struct run *run) { return run->number == 0 && run->length > 3; }
+
+static void counts_from_0(struct run *run) { run->positions[0] -= (uint16_t)gave_a_tree(run); }
+
+static void past_inputs(struct run *run)
+{
+    if (gave_a_tree(run)) {
+        run->positions[0] = (uint16_t)(run->input_length / 6 + 1);
+    }
+}
+
+static void touches_later_entry(struct run *run)
+{
+    if (run->number == 0 && run->length < TQUERY_ARRAY_MAX / 2) {
+        run->positions[run->positions_length - 1] = 0;
+    }
+}
+
+static void touches_refused_entry(struct run *run)
+{
+    if (run->number == 5) {
+        run->positions[run->positions_length / 2] = 0;
+    }
+}
+
+static void leaves_entry(struct run *run)
+{
+    if (run->number == 10 && run->positions_length > TQUERY_POSITIONS_MIN) {
+        run->positions[TQUERY_POSITIONS_MIN] = 1;
+    }
+}
+
+/* Of two trees or more: either position is one that may be given. */
+static void position_by_area(struct run *run)
+{
+    if (gave_a_tree(run) && run->length == run->input_length && run->positions[1] == 2) {
+        run->positions[0] = (uint16_t)(1 + run->entry_before / 32 % 2);
+    }
+}
+
 static const struct {
     const char *words;
     void (*fault)(struct run *run);
@@ -120,6 +183,7 @@ static const struct {
     {"writes the input, what stands there", writes_input},
     {"leaves a byte of a work area over 65,536", leaves_work},
     {"changes the work area at 1", clears_short_work},
+    {"answers 12 for 8", answers_12},
     {"answers 11 for 8", answers_11},
     {"answers 9 with a length", refuses_with_length},
     {"answers 5 for 4", answers_5_for_4},
@@ -132,6 +196,16 @@ static const struct {
     {"leaves a byte of the result area at 9", leaves_result},
     {"answers by what the work area held", number_by_work},
     {"gives a result by what the work area held", result_by_work},
+    {"writes past the position area", past_positions},
+    {"writes before the position area", before_positions},
+    {"changes the work area at 11", clears_work_at_11},
+    {"tests the query before the position area", answers_2_for_11},
+    {"counts positions from 0", counts_from_0},
+    {"gives a position past the input", past_inputs},
+    {"changes an entry beyond the result's trees", touches_later_entry},
+    {"changes the position area at 5", touches_refused_entry},
+    {"leaves an entry beyond 2,730 at 10", leaves_entry},
+    {"gives a position by what the area held", position_by_area},
 };
 
 #define OF_RUN (int)(sizeof of_run / sizeof *of_run)
@@ -168,7 +242,8 @@ uint64_t __real_tquery_run(const uint8_t *query, size_t query_length,
                            const uint8_t *input, size_t input_length,
                            const uint8_t *joined, size_t joined_length,
                            uint8_t *work, size_t work_length,
-                           uint8_t *result, size_t result_length);
+                           uint8_t *result, size_t result_length,
+                           uint16_t *positions, size_t positions_length);
 uint64_t __real_tquery_regroup(const uint8_t *query, size_t query_length,
                                const uint8_t *first, size_t first_length,
                                const uint8_t *second, size_t second_length,
@@ -181,12 +256,15 @@ uint64_t __wrap_tquery_run(const uint8_t *query, size_t query_length,
                            const uint8_t *input, size_t input_length,
                            const uint8_t *joined, size_t joined_length,
                            uint8_t *work, size_t work_length,
-                           uint8_t *result, size_t result_length)
+                           uint8_t *result, size_t result_length,
+                           uint16_t *positions, size_t positions_length)
 {
     struct run run = {query, input, joined, query_length, input_length, joined_length, work, result,
-                      work_length, result_length, work_length > 0 ? work[0] : 0, 0, 0};
+                      work_length, result_length, positions, positions_length,
+                      work_length > 0 ? work[0] : 0, positions_length > 0 ? positions[0] : 0, 0, 0};
     uint64_t answer = __real_tquery_run(query, query_length, input, input_length, joined, joined_length,
-                                        work, work_length, result, result_length);
+                                        work, work_length, result, result_length,
+                                        positions, positions_length);
     run.number = TQUERY_NUMBER(answer);
     run.length = TQUERY_LENGTH(answer);
     if (fault() < OF_RUN) {
@@ -231,7 +309,7 @@ static uint64_t regroup_fault(uint64_t answer, uint64_t query, uint64_t first, u
                               size_t both_lengths)
 {
     unsigned number = TQUERY_NUMBER(answer);
-    int ran = number == TQUERY_ACCEPTED || number >= TQUERY_TREE_LARGE;
+    int ran = number == TQUERY_ACCEPTED || (number >= TQUERY_TREE_LARGE && number <= TQUERY_RESULT_LONG);
     int of_arrays = number == TQUERY_INPUT_LONG || number == TQUERY_INPUT_MALFORMED;
     switch (fault()) {
     case GROUP_LATE:

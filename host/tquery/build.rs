@@ -6,11 +6,7 @@ use std::path::PathBuf;
 fn main() {
     // Cargo runs a build script with this variable set; without it the path is relative.
     let crate_root = PathBuf::from(env::var_os("CARGO_MANIFEST_DIR").unwrap_or_default());
-    let directory = crate_root
-        .join("..")
-        .join("..")
-        .join("target")
-        .join("staticlib");
+    let directory = crate_root.join("..").join("..").join("target").join("staticlib");
     let library = directory.join("libtquery.a");
     println!("cargo::rerun-if-changed={}", library.display());
     // `canonicalize` fails exactly where the directory or the library cannot be read.

@@ -21,8 +21,10 @@ use Rattle.spec_queries.specs.Query.{Pair}
 use Rattle.paths.specs.ComparedLaws.{is-none}
 use Rattle.arrange.specs.Links.{spots, passing, offset, firstOf}
 use Rattle.spec_stages.specs.Classes.{scan}
+use Rattle.spec_stages.specs.Positions.{unmarked}
 use Rattle.arrange.specs.Index.{base, headsAt, slots, Index, Entering, Collected}
 use Rattle.arrange.specs.Entering.{Enters, Cleared}
+use Rattle.positions.specs.BearingLaws.{bears-beyond}
 
 -- ---- the heads and the counts are cleared: a part of the area came back as zeros
 abbrev indexTop : ℕ
@@ -65,7 +67,7 @@ index-none gs c = record { links = record { nexts = tt; backs = tt; tops = c .bl
 pub record EnteringAll (w₀ q : List ℕ) (keysAt : Span) (n : ℕ) (c : Collected w₀ q keysAt n) (w : List ℕ) (at : ℕ) : Type 0 where
   pub seen : List Tree
   pub left : List Tree
-  pub both : seen ++ left ≡ c .trees
+  pub both : seen ++ left ≡ unmarked (c .borne)
   pub seen-is : Is w base at (arrayTrees seen)
   pub left-is : Is w at (base + n) (arrayTrees left)
   pub index : Index w (c .grouping) seen
@@ -84,16 +86,17 @@ collected-kept k l c = record {
   grouping = c .grouping;
   few = c .few;
   grouping-is = c .grouping-is;
-  trees = c .trees;
+  borne = c .borne;
   trees-ok = c .trees-ok;
   trees-is = is-beyond base (c .trees-is) k l (omega arith);
+  bears = bears-beyond _ _ base (omega arith) k 0 (c .borne) (c .bears);
 }
 
 module _ {w₀ q : List ℕ} {keysAt : Span} {n : ℕ} (c : Collected w₀ q keysAt n) where
   pub all-begin : {w : List ℕ} → Cleared w w₀ → EnteringAll w₀ q keysAt n c w₀ base
   all-begin b = record {
     seen = [];
-    left = c .trees;
+    left = unmarked (c .borne);
     both = refl;
     seen-is = no-trees (omega (arith, c .size));
     left-is = c .trees-is;
@@ -103,7 +106,7 @@ module _ {w₀ q : List ℕ} {keysAt : Span} {n : ℕ} (c : Collected w₀ q key
   }
 
   module _ {w : List ℕ} {at : ℕ} (e : EnteringAll w₀ q keysAt n c w at) where
-    pub all-end : at ≡ base + n → Index w (c .grouping) (c .trees)
+    pub all-end : at ≡ base + n → Index w (c .grouping) (unmarked (c .borne))
     all-end z = subst (Index w (c .grouping)) (sym (append-nil (e .seen)) ∙ ap (λ l. e .seen ++ l) (sym (array-none (e .left) z (e .left-is))) ∙ e .both) (e .index)
 
     module _ {m : ℕ} (ne : at ≡ base + n → ⊥) (z : m ≡ fieldEnd w at) where

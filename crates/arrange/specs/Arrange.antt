@@ -2,7 +2,8 @@
 -- number behind them.
 use mathlib.Core.Path.{_≡_}
 use mathlib.Core.List.{List, [], _∷_, _++_, map}
-use Prim.Native.Nat.{ℕ, _+_, _*_, _≤_, _<_}
+use mathlib.Core.Logic.{_≢_}
+use Prim.Native.Nat.{ℕ, _+_, _-_, _*_, _≤_, _<_}
 use lib.ListN.{length, drop}
 use Rattle.spec_trees.specs.Limits.{workMin}
 use Rattle.spec_trees.specs.Lists.{gather}
@@ -17,8 +18,10 @@ use Rattle.queries.specs.Places.{arrayTrees}
 use Rattle.spec_stages.specs.Group.{Class, grouped}
 use Rattle.spec_stages.specs.Classes.{scan}
 use Rattle.spec_stages.specs.Flat.{members, flat}
+use Rattle.spec_stages.specs.Positions.{Borne, unmarked, origin}
 use Rattle.group.specs.Keys.{FewPairs}
-use Rattle.map.specs.Map.{treesMax, frontPart}
+use Rattle.map.specs.Map.{treesMax, frontPart, positionAt}
+use Rattle.positions.specs.Bearing.{Bears}
 use Rattle.arrange.specs.declared.arrange.Filled.{Filled}
 use Rattle.arrange.specs.Links.{Spot, elements, up, Walk}
 use Rattle.arrange.specs.Index.{numbersAt, base, nextAt, subsetsMax, Index, Collected}
@@ -26,13 +29,13 @@ use Rattle.arrange.specs.Entering.{Stood}
 
 -- ---- trees with their numbers
 -- the first has n, the others 0
-unfoldable pub numbered : ℕ → List Tree → List (ℕ × Tree)
-numbered n [] = []
-numbered n (t ∷ ts) = (n, t) ∷ numbered 0 ts
+unfoldable pub headed : ℕ → List Tree → List (ℕ × Tree)
+headed n [] = []
+headed n (t ∷ ts) = (n, t) ∷ headed 0 ts
 
--- class behind class: 1 stands where one begins
-unfoldable pub arranged : List Class → List (ℕ × Tree)
-arranged cs = gather (λ c. numbered 1 (members c)) cs
+-- class behind class: where one begins stands the position p of its first tree
+unfoldable pub arranged : (Tree → ℕ) → List Class → List (ℕ × Tree)
+arranged p cs = gather (λ c. headed (p (c .0)) (members c)) cs
 
 abbrev pub treesOf : List (ℕ × Tree) → List Tree
 treesOf ms = map (λ m. m .1) ms
@@ -67,35 +70,39 @@ pub record Grows (w v : List ℕ) (f r : Filled) (ns : List (ℕ × Tree)) : Typ
 abbrev pub Placed : (w v : List ℕ) (treeAt : Span) (n : ℕ) (f r : Filled) → Type 0
 Placed w v treeAt n f r = (t : Tree) → IsAt w treeAt (treeBytes t) → Grows w v f r ((n, t) ∷ [])
 
--- ---- the trees that the links lead through, from x
+-- ---- the trees that the links lead through, from x, where one stands; the first gets the position that it bears
 pub record Following (w : List ℕ) (x : ℕ) (f : Filled) : Type 0 where
+  pub some : x ≢ 0
   pub left : List (Spot Tree)
   pub below : ℕ
   pub walk : Walk (Stood w) (up 6) (λ a. twoAt w (nextAt a)) below x left
   pub room : Room w f (length (arrayTrees (elements left)))
 
 abbrev pub Follows : (w v : List ℕ) (x : ℕ) (f r : Filled) → Type 0
-Follows w v x f r = (l : Following w x f) → Grows w v f r (numbered 1 (elements (l .left)))
+Follows w v x f r = (l : Following w x f) → Grows w v f r (headed (twoAt w (positionAt (x - base))) (elements (l .left)))
 
 -- ---- the classes of the subset m
 pub record Subset (w : List ℕ) (n m : ℕ) (f : Filled) : Type 0 where
   pub short : n ≤ treesMax
   pub grouping : List Pair
   pub few : FewPairs grouping
-  pub trees : List Tree
-  pub trees-ok : AllowedA trees
-  pub trees-is : Is w base (base + n) (arrayTrees trees)
-  pub index : Index w grouping trees
+  pub borne : List Borne
+  pub trees-ok : AllowedA (unmarked borne)
+  pub trees-is : Is w base (base + n) (arrayTrees (unmarked borne))
+  pub bears : Bears w 0 borne
+  pub index : Index w grouping (unmarked borne)
   pub below : m < subsetsMax
-  pub room : Room w f (length (arrayTrees (flat (scan grouping m [] trees))))
+  pub room : Room w f (length (arrayTrees (flat (scan grouping m [] (unmarked borne)))))
 
 abbrev pub SubsetArranged : (w v : List ℕ) (n m : ℕ) (f r : Filled) → Type 0
-SubsetArranged w v n m f r = (s : Subset w n m f) → Grows w v f r (arranged (scan (s .grouping) m [] (s .trees)))
+SubsetArranged w v n m f r = (s : Subset w n m f)
+    → Grows w v f r (arranged (λ t. origin (s .grouping) t (s .borne)) (scan (s .grouping) m [] (unmarked (s .borne))))
 
 -- ---- all classes: they stand at the front, up to n, and their numbers behind them
-pub record Arranged (w : List ℕ) (n : ℕ) (cs : List Class) : Type 0 where
+pub record Arranged (w : List ℕ) (n : ℕ) (p : Tree → ℕ) (cs : List Class) : Type 0 where
   pub trees-is : Is w 0 n (arrayTrees (flat cs))
-  pub numbers-is : Is w numbersAt (numbersAt + length (numberBytes (arranged cs))) (numberBytes (arranged cs))
+  pub numbers-is : Is w numbersAt (numbersAt + length (numberBytes (arranged p cs))) (numberBytes (arranged p cs))
 
 abbrev pub Arranges : (w v q : List ℕ) (keysAt : Span) (n : ℕ) → Type 0
-Arranges w v q keysAt n = (c : Collected w q keysAt n) → Arranged v n (grouped (c .grouping) (c .trees))
+Arranges w v q keysAt n = (c : Collected w q keysAt n)
+    → Arranged v n (λ t. origin (c .grouping) t (c .borne)) (grouped (c .grouping) (unmarked (c .borne)))

@@ -25,13 +25,16 @@ use Rattle.spec_stages.specs.ClassesLaws.{grouped-scan}
 use Rattle.spec_stages.specs.OnceLaws.{gather-upto}
 use Rattle.spec_stages.specs.Flat.{members, flat}
 use Rattle.spec_stages.specs.GroupedLaws.{flat-size}
+use Rattle.spec_stages.specs.Positions.{Borne, unmarked, origin}
 use Rattle.group.specs.Keys.{FewPairs}
 use Rattle.map.specs.Map.{treesMax}
+use Rattle.positions.specs.Bearing.{Bears}
 use Rattle.arrange.specs.declared.arrange.Filled.{Filled}
 use Rattle.arrange.specs.Index.{numbersAt, base, Index, Collected}
 use Rattle.arrange.specs.Entering.{EntersAll}
 use Rattle.arrange.specs.Arrange.{arranged, treesOf, numberBytes, indexAt, Front, Grows, Subset, SubsetArranged, Arranged}
 use Rattle.arrange.specs.KeptLaws.{index-kept}
+use Rattle.positions.specs.BearingLaws.{bears-beyond}
 use Rattle.arrange.specs.FrontLaws.{length-both, arranged-trees, arranged-both, grows-none, grows-then}
 
 -- ---- the classes of the subsets below k
@@ -76,35 +79,44 @@ found-length gs ts k d z =
     omega (arith, flat-length gs ts, ap (λ l. length (arrayTrees (flat l))) whole, flat-both (found gs ts k) (gather f (r .0)))
 
 -- ---- the trees are entered
-pub record Entered (w : List ℕ) (n : ℕ) (gs : List Pair) (ts : List Tree) : Type 0 where
+pub record Entered (w : List ℕ) (n : ℕ) (gs : List Pair) (bs : List Borne) : Type 0 where
   pub size : length w ≡ workMin
   pub short : n ≤ treesMax
   pub few : FewPairs gs
-  pub trees-ok : AllowedA ts
-  pub trees-is : Is w base (base + n) (arrayTrees ts)
-  pub index : Index w gs ts
+  pub trees-ok : AllowedA (unmarked bs)
+  pub trees-is : Is w base (base + n) (arrayTrees (unmarked bs))
+  pub bears : Bears w 0 bs
+  pub index : Index w gs (unmarked bs)
 
-pub entered : {w v q : List ℕ} {keysAt : Span} {n : ℕ} → length v ≡ length w → EntersAll w v q keysAt n → (c : Collected w q keysAt n) → Entered v n (c .grouping) (c .trees)
+pub entered : {w v q : List ℕ} {keysAt : Span} {n : ℕ} → length v ≡ length w → EntersAll w v q keysAt n → (c : Collected w q keysAt n) → Entered v n (c .grouping) (c .borne)
 entered l h c = record {
   size = l ∙ c .size;
   short = c .short;
   few = c .few;
   trees-ok = c .trees-ok;
   trees-is = is-beyond base (c .trees-is) (h .beyond) l (omega arith);
+  bears = bears-beyond _ _ base (omega arith) (h .beyond) 0 (c .borne) (c .bears);
   index = h .index c;
 }
 
 abbrev pub empty : Filled
 empty = record { to = 0; count = 0 }
 
-module _ {w₀ : List ℕ} {n : ℕ} {gs : List Pair} {ts : List Tree} (e : Entered w₀ n gs ts) where
-  pub arranging-begin : Grows w₀ w₀ empty empty (arranged (found gs ts 0))
-  unfolding arranged gather
-  arranging-begin = subst (λ l. Grows w₀ w₀ empty empty (arranged l)) (sym (found-none gs ts)) (grows-none w₀ empty)
+module _ {w₀ : List ℕ} {n : ℕ} {gs : List Pair} {bs : List Borne} (e : Entered w₀ n gs bs) where
+  abbrev ts : List Tree
+  ts = unmarked bs
 
-  module _ {w : List ℕ} {f : Filled} (k : ℕ) (g : Grows w₀ w empty f (arranged (found gs ts k))) where
+  -- the position of the first tree that has the key of t
+  abbrev p : Tree → ℕ
+  p t = origin gs t bs
+
+  pub arranging-begin : Grows w₀ w₀ empty empty (arranged p (found gs ts 0))
+  unfolding arranged gather
+  arranging-begin = subst (λ l. Grows w₀ w₀ empty empty (arranged p l)) (sym (found-none gs ts)) (grows-none w₀ empty)
+
+  module _ {w : List ℕ} {f : Filled} (k : ℕ) (g : Grows w₀ w empty f (arranged p (found gs ts k))) where
     filled-is : f .to ≡ length (arrayTrees (flat (found gs ts k)))
-    filled-is = omega (arith, g .to-is, ap (λ l. length (arrayTrees l)) (arranged-trees (found gs ts k)))
+    filled-is = omega (arith, g .to-is, ap (λ l. length (arrayTrees l)) (arranged-trees p (found gs ts k)))
 
     pub arranging-subset : k < 2 ^ length gs → Subset w n k f
     arranging-subset b =
@@ -114,9 +126,10 @@ module _ {w₀ : List ℕ} {n : ℕ} {gs : List Pair} {ts : List Tree} (e : Ente
           short = e .short;
           grouping = gs;
           few = e .few;
-          trees = ts;
+          borne = bs;
           trees-ok = e .trees-ok;
           trees-is = is-beyond indexAt (e .trees-is) (g .kept) (g .same) (omega arith);
+          bears = bears-beyond w₀ w indexAt (omega arith) (g .kept) 0 bs (e .bears);
           index = index-kept w₀ w (g .kept) gs ts (e .index);
           below = omega (arith, pow-mono {i = length gs} {j = 4} (e .few));
           room = record {
@@ -126,19 +139,19 @@ module _ {w₀ : List ℕ} {n : ℕ} {gs : List Pair} {ts : List Tree} (e : Ente
           };
         }
 
-    pub arranging-next : {v : List ℕ} {r : Filled} → k < 2 ^ length gs → SubsetArranged w v n k f r → Grows w₀ v empty r (arranged (found gs ts (k + 1)))
+    pub arranging-next : {v : List ℕ} {r : Filled} → k < 2 ^ length gs → SubsetArranged w v n k f r → Grows w₀ v empty r (arranged p (found gs ts (k + 1)))
     unfolding arranging-subset
     arranging-next {v} {r} b h =
-        subst (Grows w₀ v empty r) (sym (ap arranged (found-more gs ts k) ∙ arranged-both (found gs ts k) (scan gs k [] ts))) (grows-then g (h (arranging-subset b)))
+        subst (Grows w₀ v empty r) (sym (ap (arranged p) (found-more gs ts k) ∙ arranged-both p (found gs ts k) (scan gs k [] ts))) (grows-then g (h (arranging-subset b)))
 
-    pub arranging-end : k ≡ 2 ^ length gs → Arranged w n (grouped gs ts)
+    pub arranging-end : k ≡ 2 ^ length gs → Arranged w n p (grouped gs ts)
     unfolding bytes treeFs numberBytes gather
     arranging-end z =
         let all : found gs ts k ≡ grouped gs ts = ap (found gs ts) z ∙ found-all gs ts in
         let none : Front w₀ empty [] = record { trees-is = is-none (omega arith); numbers-is = is-none (omega (arith, e .size)) } in
-        let front : Front w f (arranged (grouped gs ts)) = subst (λ l. Front w f (arranged l)) all (g .front [] none) in
+        let front : Front w f (arranged p (grouped gs ts)) = subst (λ l. Front w f (arranged p l)) all (g .front [] none) in
         let to : f .to ≡ n = omega (arith, filled-is, ap (λ l. length (arrayTrees (flat l))) all, flat-length gs ts, e .trees-is .ends) in
         record {
-          trees-is = subst (λ l. Is w 0 n (arrayTrees l)) (arranged-trees (grouped gs ts)) (subst (λ m. Is w 0 m (arrayTrees (treesOf (arranged (grouped gs ts))))) to (front .trees-is));
-          numbers-is = subst (λ m. Is w numbersAt m (numberBytes (arranged (grouped gs ts)))) (front .numbers-is .ends) (front .numbers-is);
+          trees-is = subst (λ l. Is w 0 n (arrayTrees l)) (arranged-trees p (grouped gs ts)) (subst (λ m. Is w 0 m (arrayTrees (treesOf (arranged p (grouped gs ts))))) to (front .trees-is));
+          numbers-is = subst (λ m. Is w numbersAt m (numberBytes (arranged p (grouped gs ts)))) (front .numbers-is .ends) (front .numbers-is);
         }

@@ -1,26 +1,27 @@
 -- Laws of copying a class: the links lead from its first tree through all of them.
-use mathlib.Core.Path.{_≡_, refl, sym, ap, subst, _∙_}
+use mathlib.Core.Path.{_≡_, sym, ap, subst, _∙_}
 use mathlib.Core.List.{List, [], _∷_, _++_, append-nil, append-assoc}
 use mathlib.Core.Logic.{_≢_}
-use Prim.Native.Nat.{ℕ, _+_, _-_, _≤_}
+use Prim.Native.Nat.{ℕ, _+_, _-_, _≤_, _<_}
 use native.Mathlib.Omega.{arith}
 use lib.ListN.{length}
 use Rattle.spec_trees.specs.Limits.{workMin}
 use Rattle.spec_trees.specs.Tree.{Tree}
-use Rattle.spec_trees.specs.Bytes.{treeBytes}
+use Rattle.spec_trees.specs.Bytes.{twoLimit, treeBytes}
 use Rattle.areas.specs.Area.{Is, fieldEnd, span}
 use Rattle.areas.specs.AreaLaws.{is-beyond}
 use Rattle.areas.specs.Number.{twoAt}
+use Rattle.queries.specs.TreesLaws.{six, length-cons, length-none}
 use Rattle.queries.specs.Places.{arrayTrees, HoldsAt}
-use Rattle.map.specs.Map.{treesMax}
+use Rattle.map.specs.Map.{treesMax, positionAt}
 use Rattle.arrange.specs.declared.arrange.Filled.{Filled}
 use Rattle.arrange.specs.Links.{Spot, elements, up, Walk}
 use Rattle.arrange.specs.IndexLaws.{walk-ended, walk-on}
 use Rattle.arrange.specs.Index.{base, nextAt, sizeOf}
 use Rattle.arrange.specs.Entering.{Stood}
-use Rattle.arrange.specs.Arrange.{numbered, indexAt, Room, Grows, Placed, Following}
+use Rattle.arrange.specs.Arrange.{headed, indexAt, Room, Grows, Placed, Following}
 use Rattle.areas.specs.NumberLaws.{two-above}
-use Rattle.arrange.specs.StandingLaws.{six, length-cons, length-none, tree-end}
+use Rattle.arrange.specs.StandingLaws.{tree-end}
 use Rattle.arrange.specs.FrontLaws.{grows-none, grows-then}
 
 -- some trees are copied, and the links lead through those that are left
@@ -30,29 +31,35 @@ pub record Copying (w₀ : List ℕ) (x : ℕ) (f₀ : Filled) (l : Following w�
   pub left : List (Spot Tree)
   pub below : ℕ
   pub walk : Walk (Stood w₀) (up 6) (λ a. twoAt w₀ (nextAt a)) below at left
-  pub whole : done ++ numbered n (elements left) ≡ numbered 1 (elements (l .left))
+  pub whole : done ++ headed n (elements left) ≡ headed (twoAt w₀ (positionAt (x - base))) (elements (l .left))
   pub room : f .to + length (arrayTrees (elements left)) ≤ treesMax
-  pub small : n ≤ 1
+  pub small : n < twoLimit
 
 module _ {w₀ : List ℕ} {x : ℕ} {f₀ : Filled} (l : Following w₀ x f₀) where
-  pub copying-begin : Copying w₀ x f₀ l w₀ f₀ 1 x
-  copying-begin = record {
+  -- the first of them is a collected tree, so it bears a position
+  pub first-places : (base ≤ x) × (x - base + 6 ≤ treesMax) × (length w₀ ≡ workMin)
+  first-places =
+      let (t, rest, z, h, r, k) = walk-on (Stood w₀) (up 6) (λ a. twoAt w₀ (nextAt a)) (l .below) x (l .left) (l .walk) (l .some) in
+      (h .above, omega (arith, h .above, h .within, six t), l .room .size)
+
+  pub copying-begin : {n : ℕ} → n ≡ twoAt w₀ (positionAt (x - base)) → n < twoLimit → Copying w₀ x f₀ l w₀ f₀ n x
+  copying-begin z b = record {
     done = [];
     grows = grows-none w₀ f₀;
     left = l .left;
     below = l .below;
     walk = l .walk;
-    whole = refl;
+    whole = ap (λ n. headed n (elements (l .left))) z;
     room = l .room .fits;
-    small = omega arith;
+    small = b;
   }
 
   module _ {w : List ℕ} {f : Filled} {n at : ℕ} (c : Copying w₀ x f₀ l w f n at) where
-    pub copying-end : at ≡ 0 → Grows w₀ w f₀ f (numbered 1 (elements (l .left)))
-    unfolding numbered
+    pub copying-end : at ≡ 0 → Grows w₀ w f₀ f (headed (twoAt w₀ (positionAt (x - base))) (elements (l .left)))
+    unfolding headed
     copying-end z =
         let none = walk-ended (Stood w₀) (up 6) (λ a. twoAt w₀ (nextAt a)) (c .below) at (c .left) (c .walk) (λ s h. omega (arith, h .above)) z in
-        subst (Grows w₀ w f₀ f) (sym (append-nil (c .done)) ∙ ap (λ r. c .done ++ numbered n (elements r)) (sym none) ∙ c .whole) (c .grows)
+        subst (Grows w₀ w f₀ f) (sym (append-nil (c .done)) ∙ ap (λ r. c .done ++ headed n (elements r)) (sym none) ∙ c .whole) (c .grows)
 
     module _ (ne : at ≢ 0) where
       one : (t : Tree) × (rest : List (Spot Tree)) × (c .left ≡ (at, t) ∷ rest) × Stood w₀ (at, t) × up 6 (c .below) at × Walk (Stood w₀) (up 6) (λ a. twoAt w₀ (nextAt a)) at (twoAt w₀ (nextAt at)) rest
@@ -92,7 +99,7 @@ module _ {w₀ : List ℕ} {x : ℕ} {f₀ : Filled} (l : Following w₀ x f₀)
         grown = omega (arith, placed .to-is, length-cons (one .0) [], length-none, ends)
 
         pub copying-next : {b : ℕ} → b ≡ twoAt v (nextAt at) → Copying w₀ x f₀ l v r 0 b
-        unfolding numbered
+        unfolding headed
         copying-next {b} y =
             let a = one .3 .above in
             let next : twoAt w₀ (nextAt at) ≡ b = sym (two-above w₀ v indexAt (placed .kept ∙ c .grows .kept) (nextAt at) (omega arith)) ∙ sym y in
@@ -102,8 +109,8 @@ module _ {w₀ : List ℕ} {x : ℕ} {f₀ : Filled} (l : Following w₀ x f₀)
               left = one .1;
               below = at;
               walk = subst (λ o. Walk (Stood w₀) (up 6) (λ a. twoAt w₀ (nextAt a)) at o (one .1)) next (one .5);
-              whole = append-assoc (c .done) ((n, one .0) ∷ []) (numbered 0 (elements (one .1)))
-                  ∙ ap (λ r. c .done ++ numbered n (elements r)) (sym (one .2)) ∙ c .whole;
+              whole = append-assoc (c .done) ((n, one .0) ∷ []) (headed 0 (elements (one .1)))
+                  ∙ ap (λ r. c .done ++ headed n (elements r)) (sym (one .2)) ∙ c .whole;
               room = omega (arith, fits, grown, ends);
               small = omega arith;
             }

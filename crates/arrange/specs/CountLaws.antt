@@ -7,9 +7,9 @@ use native.Mathlib.Omega.{arith}
 use lib.ListN.{length}
 use Rattle.spec_trees.specs.Tree.{Tree}
 use Rattle.spec_queries.specs.Query.{Pair}
+use Rattle.queries.specs.TreesLaws.{six, length-cons, length-none}
 use Rattle.queries.specs.Places.{arrayTrees}
 use Rattle.spec_stages.specs.Classes.{begins, scan}
-use Rattle.arrange.specs.StandingLaws.{six, length-cons, length-none}
 
 -- one or none
 abbrev pub one : Bool → ℕ

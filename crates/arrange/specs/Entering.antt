@@ -15,6 +15,7 @@ use Rattle.areas.specs.Number.{twoAt}
 use Rattle.spec_queries.specs.Query.{Pair}
 use Rattle.queries.specs.Places.{pairsBytes}
 use Rattle.spec_stages.specs.Group.{key, alike, sum}
+use Rattle.spec_stages.specs.Positions.{unmarked}
 use Rattle.map.specs.Map.{treesMax}
 use Rattle.arrange.specs.Links.{Spot, down, firstOf, Walk}
 use Rattle.arrange.specs.Index.{base, backAt, nextAt, slots, headAt, subsetsMax, countAt, sizeOf, standing, slot, mark, Index, Entering, Collected}
@@ -84,4 +85,4 @@ pub record Cleared (w v : List ℕ) : Type 0 where
 
 pub record EntersAll (w v q : List ℕ) (keysAt : Span) (n : ℕ) : Type 0 where
   pub beyond : drop base v ≡ drop base w
-  pub index : (c : Collected w q keysAt n) → Index v (c .grouping) (c .trees)
+  pub index : (c : Collected w q keysAt n) → Index v (c .grouping) (unmarked (c .borne))

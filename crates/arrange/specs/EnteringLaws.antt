@@ -23,6 +23,7 @@ use Rattle.spec_stages.specs.Classes.{unlike, begins, scan}
 use Rattle.spec_stages.specs.AlikeLaws.{alike-equivalence, sum-below}
 use Rattle.group.specs.Keys.{FewPairs}
 use Rattle.map.specs.Map.{treesMax}
+use Rattle.queries.specs.TreesLaws.{six}
 use Rattle.arrange.specs.Links.{Spot, spots, elements, Apart, passing, offset, firstOf, Entered, Stored}
 use Rattle.arrange.specs.LinksLaws.{first-step}
 use Rattle.arrange.specs.EnterLaws.{apart-found, rising-left}
@@ -31,7 +32,7 @@ use Rattle.arrange.specs.IndexLaws.{rising-below, spots-entered}
 use Rattle.arrange.specs.Index.{base, backAt, nextAt, markAt, slots, headsAt, headAt, subsetsMax, countsAt, countAt, sizeOf, standing, slot, mark, Marks, Index, Entering}
 use Rattle.arrange.specs.Entering.{lastLike, Stood, StoredIf, Linked, Counted, Enters}
 use Rattle.areas.specs.NumberLaws.{Put, put}
-use Rattle.arrange.specs.StandingLaws.{six, all-stood}
+use Rattle.arrange.specs.StandingLaws.{all-stood}
 use Rattle.arrange.specs.CountLaws.{one, count-behind, count-most, six-each}
 use Rattle.arrange.specs.SearchLaws.{slot-below, end-seen, rising, places}
 

@@ -13,14 +13,13 @@ use Rattle.areas.specs.declared.area.Out.the-variants.{At}
 use Rattle.areas.specs.AreaLaws.{is-beyond, is-keep, is-join, is-copied, wrote-keep, wrote-beyond, written, drop-more}
 use Rattle.areas.specs.Number.{twoBytes}
 use Rattle.queries.specs.Places.{arrayTrees}
-use Rattle.queries.specs.TreesLaws.{array-behind}
+use Rattle.queries.specs.TreesLaws.{array-behind, six, length-cons, length-none}
 use Rattle.paths.specs.ComparedLaws.{trees-append}
 use Rattle.spec_stages.specs.Group.{Class}
 use Rattle.spec_stages.specs.Flat.{members, flat}
 use Rattle.arrange.specs.declared.arrange.Filled.{Filled}
 use Rattle.arrange.specs.Index.{numbersAt, base}
-use Rattle.arrange.specs.Arrange.{numbered, arranged, treesOf, numberBytes, indexAt, Front, Room, Grows}
-use Rattle.arrange.specs.StandingLaws.{six, length-cons, length-none}
+use Rattle.arrange.specs.Arrange.{headed, arranged, treesOf, numberBytes, indexAt, Front, Room, Grows}
 
 -- ---- lists of trees with their numbers
 pub length-both : (xs ys : List Tree) → length (arrayTrees (xs ++ ys)) ≡ length (arrayTrees xs) + length (arrayTrees ys)
@@ -33,24 +32,26 @@ numbers-behind ms n t = gather-append (λ m. twoBytes (m .0)) ms ((n, t) ∷ [])
 trees-behind : (ms : List (ℕ × Tree)) (n : ℕ) (t : Tree) → treesOf (ms ++ ((n, t) ∷ [])) ≡ treesOf ms ++ (t ∷ [])
 trees-behind ms n t = map-append (λ m. m .1) ms ((n, t) ∷ [])
 
-pub numbered-trees : (n : ℕ) (ts : List Tree) → treesOf (numbered n ts) ≡ ts
-unfolding numbered
-numbered-trees n [] = refl
-numbered-trees n (t ∷ ts) = ap (λ l. t ∷ l) (numbered-trees 0 ts)
+pub headed-trees : (n : ℕ) (ts : List Tree) → treesOf (headed n ts) ≡ ts
+unfolding headed
+headed-trees n [] = refl
+headed-trees n (t ∷ ts) = ap (λ l. t ∷ l) (headed-trees 0 ts)
 
-pub arranged-trees : (cs : List Class) → treesOf (arranged cs) ≡ flat cs
-unfolding arranged flat gather
-arranged-trees [] = refl
-arranged-trees (c ∷ cs) =
-    map-append (λ m. m .1) (numbered 1 (members c)) (arranged cs) ∙ ap₂ _++_ (numbered-trees 1 (members c)) (arranged-trees cs)
+module _ (p : Tree → ℕ) where
+  pub arranged-trees : (cs : List Class) → treesOf (arranged p cs) ≡ flat cs
+  unfolding arranged flat gather
+  arranged-trees [] = refl
+  arranged-trees (c ∷ cs) =
+      map-append (λ m. m .1) (headed (p (c .0)) (members c)) (arranged p cs) ∙ ap₂ _++_ (headed-trees (p (c .0)) (members c)) (arranged-trees cs)
 
-pub arranged-behind : (cs : List Class) (c : Class) → arranged (cs ++ (c ∷ [])) ≡ arranged cs ++ numbered 1 (members c)
-unfolding arranged gather
-arranged-behind cs c = gather-append (λ d. numbered 1 (members d)) cs (c ∷ []) ∙ ap (λ l. arranged cs ++ l) (append-nil (numbered 1 (members c)))
+  pub arranged-behind : (cs : List Class) (c : Class) → arranged p (cs ++ (c ∷ [])) ≡ arranged p cs ++ headed (p (c .0)) (members c)
+  unfolding arranged gather
+  arranged-behind cs c =
+      gather-append (λ d. headed (p (d .0)) (members d)) cs (c ∷ []) ∙ ap (λ l. arranged p cs ++ l) (append-nil (headed (p (c .0)) (members c)))
 
-pub arranged-both : (xs ys : List Class) → arranged (xs ++ ys) ≡ arranged xs ++ arranged ys
-unfolding arranged
-arranged-both xs ys = gather-append (λ c. numbered 1 (members c)) xs ys
+  pub arranged-both : (xs ys : List Class) → arranged p (xs ++ ys) ≡ arranged p xs ++ arranged p ys
+  unfolding arranged
+  arranged-both xs ys = gather-append (λ c. headed (p (c .0)) (members c)) xs ys
 
 -- ---- nothing more, and one list behind another
 pub grows-none : (w : List ℕ) (f : Filled) → Grows w w f f []

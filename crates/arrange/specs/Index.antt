@@ -16,9 +16,11 @@ use Rattle.spec_queries.specs.Query.{Pair}
 use Rattle.queries.specs.Places.{pairsBytes, arrayTrees}
 use Rattle.spec_stages.specs.Group.{key, alike, sum}
 use Rattle.spec_stages.specs.Classes.{unlike, scan}
+use Rattle.spec_stages.specs.Positions.{Borne, unmarked}
 use Rattle.group.specs.Keys.{FewPairs}
 use Rattle.group.specs.KeyHash.{keyHash}
-use Rattle.map.specs.Map.{treesMax, frontPart, collectorAt}
+use Rattle.map.specs.Map.{treesMax, frontPart, collectedAt}
+use Rattle.positions.specs.Bearing.{Bears}
 use Rattle.arrange.specs.declared.index.Parts.{Parts}
 use Rattle.arrange.specs.Links.{Spot, spots, Indexed}
 
@@ -29,7 +31,7 @@ numbersAt = arrayMax
 
 -- the collected trees
 abbrev pub base : ℕ
-base = collectorAt workMin
+base = collectedAt
 
 -- how far below a tree its own numbers begin
 abbrev pub distance : ℕ
@@ -110,13 +112,14 @@ pub record Entering (w q : List ℕ) (keysAt treeAt : Span) : Type 0 where
   pub tree-is : IsAt w treeAt (treeBytes tree)
   pub index : Index w grouping seen
 
--- ---- all trees of the collected array, of n bytes
+-- ---- all trees of the collected array, of n bytes, and the positions that they bear
 pub record Collected (w q : List ℕ) (keysAt : Span) (n : ℕ) : Type 0 where
   pub size : length w ≡ workMin
   pub short : n ≤ treesMax
   pub grouping : List Pair
   pub few : FewPairs grouping
   pub grouping-is : IsAt q keysAt (pairsBytes grouping)
-  pub trees : List Tree
-  pub trees-ok : AllowedA trees
-  pub trees-is : Is w base (base + n) (arrayTrees trees)
+  pub borne : List Borne
+  pub trees-ok : AllowedA (unmarked borne)
+  pub trees-is : Is w base (base + n) (arrayTrees (unmarked borne))
+  pub bears : Bears w 0 borne

@@ -13,6 +13,7 @@ pub mod CountLaws
 pub mod SearchLaws
 pub mod EnteringLaws
 pub mod KeptLaws
+pub mod OriginLaws
 pub mod FrontLaws
 pub mod ClassLaws
 pub mod AllLaws

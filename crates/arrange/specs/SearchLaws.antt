@@ -14,6 +14,7 @@ use Rattle.areas.specs.Area.{Is, fieldEnd, span}
 use Rattle.areas.specs.declared.span.Span.{Span}
 use Rattle.areas.specs.Number.{twoAt}
 use Rattle.spec_queries.specs.Query.{Pair}
+use Rattle.queries.specs.TreesLaws.{six}
 use Rattle.queries.specs.Places.{pairsBytes, HoldsAt}
 use Rattle.spec_stages.specs.Group.{alike}
 use Rattle.spec_stages.specs.AlikeLaws.{alike-equivalence}
@@ -25,7 +26,7 @@ use Rattle.arrange.specs.LinksLaws.{search}
 use Rattle.arrange.specs.IndexLaws.{index-walk, walk-down, rising-behind, search-ended, search-on}
 use Rattle.arrange.specs.Index.{base, backAt, slots, sizeOf, standing, slot, Entering}
 use Rattle.arrange.specs.Entering.{Search, lastLike, Stood, Searching}
-use Rattle.arrange.specs.StandingLaws.{six, end-is, tree-end, all-stood}
+use Rattle.arrange.specs.StandingLaws.{end-is, tree-end, all-stood}
 
 -- the number of a slot is below their count
 pub slot-below : (gs : List Pair) (t : Tree) → slot gs t < slots

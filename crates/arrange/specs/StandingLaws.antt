@@ -3,48 +3,21 @@ use mathlib.Core.Path.{_≡_, refl, sym, ap, subst, _∙_}
 use mathlib.Core.List.{List, [], _∷_, _++_}
 use Prim.Native.Nat.{ℕ, _+_, _≤_}
 use native.Mathlib.Omega.{arith}
-use lib.ListN.{length, length-append}
+use lib.ListN.{length}
 use Rattle.spec_trees.specs.Lists.{All}
-use Rattle.spec_trees.specs.Tree.{Root, void, boolean, integer, text, Tree, node}
-use Rattle.spec_trees.specs.Size.{rootSize, size}
-use Rattle.spec_trees.specs.SizeLaws.{length-tree}
-use Rattle.spec_trees.specs.Bytes.{bytes, treeF, treeFs, treeBytes}
+use Rattle.spec_trees.specs.Tree.{Tree}
+use Rattle.spec_trees.specs.Bytes.{treeF, treeBytes}
 use Rattle.spec_trees.specs.Within.{AllowedA}
 use Rattle.areas.specs.Area.{Is, fieldEnd}
 use Rattle.areas.specs.AreaLaws.{is-left, is-right, is-field-end}
 use Rattle.queries.specs.Places.{arrayTrees}
+use Rattle.queries.specs.TreesLaws.{trees-cons, length-cons, length-none}
 use Rattle.map.specs.Map.{treesMax}
 use Rattle.arrange.specs.Links.{spots, end}
 use Rattle.arrange.specs.Index.{base, sizeOf}
 use Rattle.arrange.specs.Entering.{Stood}
 
--- ---- a tree has six bytes or more
-root-three : (r : Root) → 3 ≤ rootSize r
-unfolding rootSize
-root-three void = omega arith
-root-three (boolean b) = omega arith
-root-three (integer z) = omega arith
-root-three (text s) = omega arith
-
-six-more : (t : Tree) → 6 ≤ size t
-unfolding size
-six-more (node r ls) = omega (arith, root-three r)
-
-pub six : (t : Tree) → 6 ≤ sizeOf t
-six t = omega (arith, six-more t, length-tree t)
-
--- ---- the bytes of a tree and of those behind it
-pub trees-cons : (t : Tree) (ts : List Tree) → arrayTrees (t ∷ ts) ≡ treeBytes t ++ arrayTrees ts
-unfolding bytes treeF treeBytes
-trees-cons t ts = refl
-
-pub length-cons : (t : Tree) (ts : List Tree) → length (arrayTrees (t ∷ ts)) ≡ sizeOf t + length (arrayTrees ts)
-length-cons t ts = ap length (trees-cons t ts) ∙ length-append (treeBytes t) (arrayTrees ts)
-
-pub length-none : length (arrayTrees []) ≡ 0
-unfolding bytes treeFs
-length-none = refl
-
+-- ---- where they end
 pub end-is : (a : ℕ) (ts : List Tree) → end sizeOf a ts ≡ a + length (arrayTrees ts)
 unfolding end
 end-is a [] = omega (arith, length-none)

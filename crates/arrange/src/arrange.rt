@@ -1,6 +1,6 @@
 //! The array that enters a group is copied to the front class by class: subset by subset of the grouping pairs, in the
-//! order of the classes' first trees, each class in one piece. Behind the arranged trees stands a number for each: 1 if
-//! the tree begins a class, otherwise 0.
+//! order of the classes' first trees, each class in one piece. Behind the arranged trees stands a number for each: that
+//! of a tree that begins a class is the position that it bears, and the others have 0.
 ghost use Prim.Native.Nat.{_+_, _-_, _≤_, _<_};
 ghost use lib.ListN.{length};
 ghost use Rattle.spec_trees.specs.Limits.{workMin};
@@ -16,6 +16,7 @@ use areas::number::put_two;
 use areas::number::two_at;
 use areas::span::Span;
 use group::key::subsets;
+use positions::bear::position_at;
 
 /// How far the front is filled: where the next tree goes, and how many stand there.
 pub struct Filled {
@@ -36,13 +37,14 @@ fn place(work: &mut [u8], tree: Span, number: usize, filled: Filled) -> Filled
     }
 }
 
-/// Puts the class of the tree at `first` there: that tree, and those behind it with its key.
+/// Puts the class of the tree at `first` there: that tree, with the position that it bears, and those behind it with
+/// its key.
 fn arrange_class(work: &mut [u8], first: usize, filled: Filled) -> Filled
     requires { ⌜ Following (now work) first filled ⌝ }
     ensures { λ r. ⌜ Follows (now (work .entry)) (now (work .exit)) first filled r ⌝ }
 {
     let mut so_far = filled;
-    let mut number = 1;
+    let mut number = position_at(work, first - Index::TREES);
     let mut at = first;
     while at != 0 {
         let m = field_end(work, at);

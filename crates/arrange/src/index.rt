@@ -25,7 +25,7 @@ impl Index {
     pub const COUNTS: usize = Index::HEADS + 2 * Index::SLOTS;
 
     /// The collected trees.
-    pub const TREES: usize = Limits::WORK - Map::END;
+    pub const TREES: usize = Map::COLLECTED;
 
     /// How far below a tree the last before it with its slot is noted.
     pub const BACK: usize = Index::TREES - Map::FRONT;

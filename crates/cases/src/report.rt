@@ -9,6 +9,7 @@ pub fn say_verdict(verdict: Verdict) {
         Verdict::Length => io::write_all(1, b"length differs"),
         Verdict::Result => io::write_all(1, b"result differs"),
         Verdict::Rest => io::write_all(1, b"rest of the result area differs"),
+        Verdict::Positions => io::write_all(1, b"position area differs"),
         Verdict::Work => io::write_all(1, b"work area differs"),
         Verdict::Malformed => io::write_all(1, b"malformed"),
     }

@@ -10,12 +10,13 @@ pub fn alone<'a>(
     joined: &'a [u8],
     work: &mut [u8],
     result: &mut [u8],
+    positions: &mut [u16],
 ) -> Answer
     ensures { λ a. ⌜
         AloneGives
-        (now (query .entry)) (now (input .entry)) (now (joined .entry)) (now (work .entry)) (now (result .entry))
-        a (now (result .exit))
+        (now (query .entry)) (now (input .entry)) (now (joined .entry)) (now (work .entry)) (now (result .entry)) (now (positions .entry))
+        a (now (result .exit)) (now (positions .exit))
         ⌝ }
 {
-    run(query, input, joined, work, result)
+    run(query, input, joined, work, result, positions)
 }

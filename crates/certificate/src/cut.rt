@@ -13,8 +13,9 @@ pub struct Runs {
 }
 
 /// Runs `before` over the input, `behind` over its result, and then `query` over the input, all with the same joined
-/// array and each in the least work area. The second run has a result area of its own, in which its result
-/// stays; the other two have the first, in which the uncut run's result stays.
+/// array and each in the least work area, with a position area of its own of the least length. The second run has a
+/// result area of its own, in which its result stays; the other two have the first, in which the uncut run's result
+/// stays.
 pub fn cut<'a>(
     query: &'a [u8],
     before: &'a [u8],
@@ -34,10 +35,13 @@ pub fn cut<'a>(
         ⌝ }
 {
     let mut work = [0u8; Limits::WORK];
-    let a = run(before, input, joined, &mut work, first);
+    let mut one = [0u16; Limits::POSITIONS];
+    let mut two = [0u16; Limits::POSITIONS];
+    let mut three = [0u16; Limits::POSITIONS];
+    let a = run(before, input, joined, &mut work, first, &mut one);
     let n = length(a);
-    let b = run(behind, &first[..n], joined, &mut work, second);
-    let c = run(query, input, joined, &mut work, first);
+    let b = run(behind, &first[..n], joined, &mut work, second, &mut two);
+    let c = run(query, input, joined, &mut work, first, &mut three);
     Runs {
         first: a,
         second: b,

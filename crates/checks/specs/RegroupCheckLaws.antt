@@ -7,6 +7,7 @@ use native.Mathlib.Omega.{arith}
 use Rattle.spec_trees.specs.Tree.{Tree}
 use Rattle.spec_trees.specs.Readers.{accepted}
 use Rattle.spec_trees.specs.Within.{AllBytes}
+use Rattle.format.specs.Check.{checkOf}
 use Rattle.spec_trees.specs.Options.{only}
 use Rattle.spec_queries.specs.Query.{Stage}
 use Rattle.spec_queries.specs.Bytes.{queryBytes}
@@ -19,16 +20,16 @@ use Rattle.queries.specs.declared.stage.GroupAt.{GroupAt}
 use Rattle.trays.specs.declared.tray_group.TrayGroup.{TrayGroup}
 use Rattle.trays.specs.TrayGroup.{QueryForm, IsTrayGroup, TrayGroupIs}
 use Rattle.spec_run.specs.declared.answer.Refusal.{Refusal}
-use Rattle.spec_run.specs.declared.answer.Refusal.the-variants.{QueryMalformed, InputLong, InputMalformed}
+use Rattle.spec_run.specs.declared.answer.Refusal.the-variants.{QueryLong, QueryMalformed, InputLong, InputMalformed}
 use Rattle.spec_run.specs.Refusal.{keepsResult}
 use Rattle.spec_run.specs.Run.{Verdict, final}
 use Rattle.spec_run.specs.Regroup.{asking, regroupVerdictOf}
 use Rattle.checks.specs.declared.check.CallCheck.{CallCheck}
 use Rattle.checks.specs.declared.check.CallCheck.the-variants.{Passed, Refused}
 use Rattle.checks.specs.declared.check.RegroupCheck.{RegroupCheck}
-use Rattle.checks.specs.Check.{next, preparedCheck, arraysCheck, Early}
+use Rattle.checks.specs.Check.{decided, next, workCheck, preparedCheck, arraysCheck, Early}
 use Rattle.checks.specs.RegroupCheck.{Read, bothRead, tested, TraysCheck, RegroupChecked}
-use Rattle.checks.specs.CheckLaws.{prepared-read, prepared-refused, arrays-read, arrays-refused}
+use Rattle.checks.specs.CheckLaws.{work-read, prepared-read, arrays-read, work-refused, query-refused, prepared-row, arrays-refused}
 
 -- ---- answers, by their one constructor
 refuses-only : {q a b : List ℕ} {t : Refusal} → ((ss : List Stage) → readQuery q ≡ accepted ss → (f : Stage → List Tree → List Tree → Verdict) → Early (tested a b ss f) t)
@@ -51,6 +52,10 @@ clash e = let z : _≡_ {A = ℕ} 0 1 = cc in absurd (omega arith)
 pub such-is : {q : List ℕ} {ss : List Stage} {at : GroupAt} (i : IsTrayGroup q ss at) → regrouping ss ≡ some (regrouped (i .aggregates) (i .grouping))
 unfolding regrouping only
 such-is i = ap regrouping (i .same) ∙ ap (λ b. only b (some (regrouped (i .aggregates) (i .grouping)))) (i .distinct)
+
+-- what comes behind all tests
+abbrev regroups : ℕ → Stage → List Tree → List Tree → Verdict
+regroups room s ts us = final room [] (stages [] (s ∷ []) (going (ts ++ us)))
 
 -- ---- behind the query's test
 -- the bytes that were read are those of the query
@@ -89,27 +94,34 @@ module _ (q a b : List ℕ) (bq : AllBytes q) {g : TrayGroup} (h : TrayGroupIs q
         (arrays-refused a b InputLong InputMalformed t (f s) refl refl (sym y ∙ e)))
 
 -- ---- all tests
-module _ (q a b : List ℕ) (work : ℕ) {x : CallCheck} (y : x ≡ preparedCheck q work) where
+module _ (q a b : List ℕ) (work : ℕ) {x : CallCheck} (y : x ≡ preparedCheck q (workCheck work)) where
   pub prepared-form : AllBytes q → x ≡ Passed → QueryForm q
   prepared-form bq e =
-      let (l, (ss, z)) = prepared-read q work (sym y ∙ e) in
+      let (l, (ss, z)) = prepared-read q (workCheck work) (sym y ∙ e) in
       let o = read-form q ss bq z in
       record { query = ss; query-is = o .0; query-ok = o .1 }
 
-  pub regroup-checked : x ≡ Passed → {r : RegroupCheck} → TraysCheck q a b r → RegroupChecked q a b work r
+  -- refused by the tests so far, or then by o
+  refused-at : (t : Refusal) (room : ℕ) (o : CallCheck) → next x o ≡ Refused t
+      → ((ss : List Stage) → readQuery q ≡ accepted ss → o ≡ Refused t → Early (tested a b ss (regroups room)) t)
+      → Early (regroupVerdictOf q a b work room) t
   unfolding regroupVerdictOf
+  refused-at t room o e h =
+      let query = next (decided (checkOf (readQuery q)) QueryLong QueryMalformed) o in
+      work-refused work t _ query (query-refused q t _ o h) (sym (ap (λ c. next c o) y ∙ prepared-row q (workCheck work) o) ∙ e)
+
+  pub regroup-checked : x ≡ Passed → {r : RegroupCheck} → TraysCheck q a b r → RegroupChecked q a b work r
   regroup-checked e {r} h =
-      let (l, (ss, z)) = prepared-read q work (sym y ∙ e) in
+      let (l, (ss, z)) = prepared-read q (workCheck work) (sym y ∙ e) in
       record {
-        passed = λ at w. (l, h .passed at w);
-        refuses = λ t w room. prepared-refused q work t _ (Refused t) (λ us u v. h .refuses t w us u (λ s ts vs. final room (stages [] (s ∷ []) (going (ts ++ vs))))) (ap (λ c. next c (Refused t)) (sym y ∙ e));
+        passed = λ at w. (work-read work l, h .passed at w);
+        refuses = λ t w room. refused-at t room (Refused t) (ap (λ c. next c (Refused t)) e) (λ us u v. h .refuses t w us u (regroups room));
       }
 
   pub regroup-refused : {t : Refusal} → x ≡ Refused t → RegroupChecked q a b work (RegroupCheck.Refused t)
-  unfolding regroupVerdictOf
   regroup-refused {t} e = record {
     passed = λ at w. let c : _≡_ {A = ℕ} 0 1 = cc in absurd (omega arith);
     refuses = λ u w room.
         let d : t ≡ u = cc in
-        subst (Early (regroupVerdictOf q a b work room)) d (prepared-refused q work t _ Passed (λ us i j. clash j) (ap (λ c. next c Passed) (sym y ∙ e)));
+        subst (Early (regroupVerdictOf q a b work room)) d (refused-at t room Passed (ap (λ c. next c Passed) e) (λ us i j. clash j));
   }

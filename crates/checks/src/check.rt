@@ -1,7 +1,7 @@
 //! The tests of a call. Every call that takes a query makes them here, before anything is changed.
 ghost use mathlib.Core.Path.{_≡_};
 ghost use Rattle.trays.specs.TrayGroup.{QueryForm};
-ghost use Rattle.checks.specs.Check.{decided, preparedCheck, arraysCheck, callCheck};
+ghost use Rattle.checks.specs.Check.{decided, workCheck, areasCheck, preparedCheck, arraysCheck, callCheck};
 ghost use Rattle.checks.specs.RegroupCheck.{TraysCheck, RegroupChecked};
 use format::check::Check;
 use format::check::check_array;
@@ -29,13 +29,38 @@ fn decide(check: Check, long: Refusal, malformed: Refusal) -> CallCheck
     }
 }
 
-/// Tests 1 to 3, of every call that takes a query: the work area's length, and the query.
-fn check_prepared(query: &[u8], work: usize) -> CallCheck
-    ensures { λ r. ⌜ r ≡ preparedCheck (now (query .entry)) work ⌝ }
+/// Test 1, of every call that takes a query: the work area's length.
+fn check_work(work: usize) -> CallCheck
+    ensures { λ r. ⌜ r ≡ workCheck work ⌝ }
 {
     if work < Limits::WORK {
         return CallCheck::Refused(Refusal::WorkShort);
     }
+    CallCheck::Passed
+}
+
+/// Tests 1 and 11, of a run: the lengths of the work area and of the position area.
+fn check_areas(work: usize, entries: usize) -> CallCheck
+    ensures { λ r. ⌜ r ≡ areasCheck work entries ⌝ }
+{
+    let a = check_work(work);
+    let CallCheck::Passed = a else {
+        return a;
+    };
+    if entries < Limits::POSITIONS {
+        return CallCheck::Refused(Refusal::PositionsShort);
+    }
+    CallCheck::Passed
+}
+
+/// Tests 2 and 3, of every call that takes a query. They stand behind those of the areas' lengths, which answered
+/// `areas`.
+fn check_prepared(query: &[u8], areas: CallCheck) -> CallCheck
+    ensures { λ r. ⌜ r ≡ preparedCheck (now (query .entry)) areas ⌝ }
+{
+    let CallCheck::Passed = areas else {
+        return areas;
+    };
     decide(
         check_query(query),
         Refusal::QueryLong,
@@ -58,11 +83,18 @@ fn check_arrays(first: &[u8], second: &[u8], long: Refusal, malformed: Refusal) 
     decide(check_array(second), long, malformed)
 }
 
-/// The tests of a run in their order: the work area's length, the query, the input, the joined array.
-pub fn check_call(query: &[u8], input: &[u8], joined: &[u8], work: usize) -> CallCheck
-    ensures { λ r. ⌜ r ≡ callCheck (now (query .entry)) (now (input .entry)) (now (joined .entry)) work ⌝ }
+/// The tests of a run in their order: the lengths of the work area and of the position area, the query, the input, the
+/// joined array.
+pub fn check_call(
+    query: &[u8],
+    input: &[u8],
+    joined: &[u8],
+    work: usize,
+    entries: usize,
+) -> CallCheck
+    ensures { λ r. ⌜ r ≡ callCheck (now (query .entry)) (now (input .entry)) (now (joined .entry)) work entries ⌝ }
 {
-    let a = check_prepared(query, work);
+    let a = check_prepared(query, check_areas(work, entries));
     let CallCheck::Passed = a else {
         return a;
     };
@@ -95,7 +127,7 @@ fn check_trays(query: &[u8], first: &[u8], second: &[u8]) -> RegroupCheck
 pub fn check_regroup(query: &[u8], first: &[u8], second: &[u8], work: usize) -> RegroupCheck
     ensures { λ r. ⌜ RegroupChecked (now (query .entry)) (now (first .entry)) (now (second .entry)) work r ⌝ }
 {
-    let prepared = check_prepared(query, work);
+    let prepared = check_prepared(query, check_work(work));
     match prepared {
         CallCheck::Passed => check_trays(query, first, second),
         CallCheck::Refused(refusal) => RegroupCheck::Refused(refusal),

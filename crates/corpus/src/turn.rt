@@ -6,6 +6,7 @@ use cases::compare::Call;
 use cases::compare::Case;
 use cases::compare::Verdict;
 use cases::compare::compare;
+use cases::positions::least_entries;
 
 /// The case was compared; or there was no record more; or it is cut short, or has a length past the buffer.
 pub enum Turn {
@@ -20,6 +21,9 @@ const PARTS: usize = 65536;
 /// What a regrouping adds to the length of its work area: the first bit of three bytes.
 const REGROUPS: usize = 8388608;
 
+/// What a run adds whose positions are stated: the second bit.
+const STATED: usize = 4194304;
+
 /// The call of a record, by the length of its work area as it is written.
 fn call_of(marked: usize) -> Call {
     if marked < REGROUPS {
@@ -27,6 +31,27 @@ fn call_of(marked: usize) -> Call {
     } else {
         Call::Regroup
     }
+}
+
+/// Whether positions are stated in a record, by the same length.
+fn is_stated(marked: usize) -> bool {
+    STATED <= marked % REGROUPS
+}
+
+/// Reads how many entries the position area has, or takes as many as a run needs.
+fn read_entries(stated: bool) -> Part {
+    if stated {
+        return read_number(2);
+    }
+    Part::Whole(least_entries())
+}
+
+/// Reads the positions that are stated to a place of a buffer: where they end.
+fn read_positions(stated: bool, buffer: &mut [u8], from: usize) -> Part {
+    if stated {
+        return read_part(buffer, from);
+    }
+    Part::Whole(from)
 }
 
 /// Reads what is behind the arrays, and runs the case. The query ends at `query_end`, the arrays at the other two places.
@@ -37,10 +62,17 @@ fn behind_arrays(query_end: usize, first_end: usize, second_end: usize, bytes: &
     let Part::Whole(room) = read_number(2) else {
         return Turn::Malformed;
     };
+    let stated = is_stated(marked);
+    let Part::Whole(entries) = read_entries(stated) else {
+        return Turn::Malformed;
+    };
     let Part::Whole(number) = read_number(1) else {
         return Turn::Malformed;
     };
     let Part::Whole(result_end) = read_part(bytes, second_end) else {
+        return Turn::Malformed;
+    };
+    let Part::Whole(positions_end) = read_positions(stated, bytes, result_end) else {
         return Turn::Malformed;
     };
     let c = Case {
@@ -49,8 +81,11 @@ fn behind_arrays(query_end: usize, first_end: usize, second_end: usize, bytes: &
         first_end,
         second_end,
         result_end,
-        work: marked % REGROUPS,
+        positions_end,
+        work: marked % STATED,
         room,
+        entries,
+        stated,
         number: number as u64,
     };
     Turn::Compared(compare(bytes, c))

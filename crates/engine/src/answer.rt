@@ -1,4 +1,4 @@
-//! Document 01's numbers of answers, each said once: that of a refusal.
+//! The documents' numbers of answers, each said once: that of a refusal.
 ghost use mathlib.Core.Path.{_≡_};
 ghost use Rattle.spec_run.specs.Refusal.{numberOf};
 ghost use Rattle.spec_run.specs.Answer.{numbered, lengthened};
@@ -7,12 +7,13 @@ use format::check::Check;
 use spec_run::answer::Answer;
 use spec_run::answer::Refusal;
 
-/// Document 01's number of a refusal.
+/// The documents' number of a refusal.
 pub fn refusal_number(refusal: Refusal) -> u64
     ensures { λ n. ⌜ n ≡ numberOf refusal ⌝ }
 {
     match refusal {
         Refusal::WorkShort => 1,
+        Refusal::PositionsShort => 11,
         Refusal::QueryLong => 2,
         Refusal::QueryMalformed => 3,
         Refusal::InputLong => 4,
@@ -25,7 +26,7 @@ pub fn refusal_number(refusal: Refusal) -> u64
     }
 }
 
-/// Document 01's number of an answer: 0 if it is accepted.
+/// The documents' number of an answer: 0 if it is accepted.
 pub fn number(answer: Answer) -> u64
     ensures { λ n. ⌜ n ≡ numbered answer ⌝ }
 {
@@ -45,7 +46,7 @@ pub fn length(answer: Answer) -> usize
     }
 }
 
-/// Document 01's number of a check: 0 if it accepts, else that of the refusal that it stands for.
+/// The documents' number of a check: 0 if it accepts, else that of the refusal that it stands for.
 pub fn check_number(check: Check, long: Refusal, malformed: Refusal) -> u64
     ensures { λ n. ⌜ n ≡ checkedAs check long malformed ⌝ }
 {

@@ -3,26 +3,44 @@
 ghost use mathlib.Core.Path.{_≡_};
 ghost use mathlib.Core.List.{_++_};
 ghost use mathlib.Core.Bool.{cond};
+ghost use Prim.Native.Nat.{_+_, _≤_};
 ghost use lib.ListN.{length, replicate};
-ghost use lib.Dec.{leb};
-ghost use Rattle.spec_trees.specs.Limits.{workMin};
+ghost use Rattle.spec_trees.specs.Limits.{arrayMax};
 ghost use Rattle.areas.specs.Area.{headBytes};
-ghost use Rattle.engine.specs.Finish.{ArrayReady, AcceptReady, Accepts, FinishReady, Finishes};
+ghost use Rattle.spec_run.specs.Refusal.{keepsWork};
+ghost use Rattle.engine.specs.Finish.{AcceptReady, Accepts, FinishReady, Finishes};
 use areas::area::clear;
 use areas::area::emit;
-use areas::area::field_end;
 use areas::area::put_head;
-use format::limits::Limits;
 use map::map::Map;
 use spec_run::answer::Answer;
 use spec_run::answer::Refusal;
 use stretches::ended::Ended;
 
-/// A refusal before the stages: the work area is zero, unless it is too short; the result area is not touched.
-pub fn refuse(refusal: Refusal, work: &mut [u8]) -> Answer
-    ensures { λ a. ⌜ (a ≡ Answer.Refused refusal) × (now (work .exit) ≡ cond (leb workMin (length (now (work .entry)))) (replicate (length (now (work .entry))) 0) (now (work .entry))) ⌝ }
+/// Whether a refusal leaves the work area as it was.
+fn keeps_work(refusal: Refusal) -> bool
+    ensures { λ r. ⌜ r ≡ keepsWork refusal ⌝ }
 {
-    if work.len() < Limits::WORK {
+    match refusal {
+        Refusal::WorkShort => true,
+        Refusal::PositionsShort => true,
+        Refusal::QueryLong => false,
+        Refusal::QueryMalformed => false,
+        Refusal::InputLong => false,
+        Refusal::InputMalformed => false,
+        Refusal::JoinedLong => false,
+        Refusal::JoinedMalformed => false,
+        Refusal::TreeLarge => false,
+        Refusal::GroupLong => false,
+        Refusal::ResultLong => false,
+    }
+}
+
+/// A refusal before the stages: the work area is zero, unless the refusal keeps it; no other area is touched.
+pub fn refuse(refusal: Refusal, work: &mut [u8]) -> Answer
+    ensures { λ a. ⌜ (a ≡ Answer.Refused refusal) × (now (work .exit) ≡ cond (keepsWork refusal) (now (work .entry)) (replicate (length (now (work .entry))) 0)) ⌝ }
+{
+    if keeps_work(refusal) {
         return Answer::Refused(refusal);
     }
     clear(work);
@@ -37,19 +55,14 @@ fn fail(refusal: Refusal, result: &mut [u8]) -> Answer
     Answer::Refused(refusal)
 }
 
-/// Writes the array whose trees are src over all of out: its head, and each tree directly behind the one before it.
-fn write_array(out: &mut [u8], src: &[u8])
-    requires { ⌜ ArrayReady (now out) (now src) ⌝ }
-    ensures { λ _. ⌜ now (out .exit) ≡ headBytes 1 (length (now (src .entry))) ++ now (src .entry) ⌝ }
+/// Writes the array whose trees are `trees` over all of `out`: its head, and the trees directly behind it.
+fn write_array(out: &mut [u8], trees: &[u8])
+    requires { ⌜ (length (now out) ≡ length (now trees) + 3) × (length (now out) ≤ arrayMax) ⌝ }
+    ensures { λ _. ⌜ now (out .exit) ≡ headBytes 1 (length (now (trees .entry))) ++ now (trees .entry) ⌝ }
 {
     let end = out.len();
     put_head(out, 0, 1, end);
-    let mut at = 0;
-    while at != src.len() {
-        let m = field_end(src, at);
-        emit(out, at + 3, &src[at..m]);
-        at = m;
-    }
+    emit(out, 3, trees);
 }
 
 /// The array of whose trees the collector holds `len` bytes: it is written, if the result area has room for it.
@@ -60,12 +73,12 @@ fn accept(work: &[u8], len: usize, result: &mut [u8]) -> Answer
     if result.len() < len + 3 {
         return fail(Refusal::ResultLong, result);
     }
-    let from = work.len() - Map::END;
+    let from = Map::COLLECTED;
     write_array(&mut result[..len + 3], &work[from..from + len]);
     Answer::Accepted(len + 3)
 }
 
-/// The answer of a run whose stages ended so.
+/// The answer of a call whose stages ended so.
 pub fn finish(work: &[u8], ended: Ended, result: &mut [u8]) -> Answer
     requires { ⌜ FinishReady (now work) ended ⌝ }
     ensures { λ a. ⌜ Finishes (now (work .entry)) ended (now (result .entry)) (now (result .exit)) a ⌝ }

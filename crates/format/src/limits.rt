@@ -2,7 +2,7 @@
 ghost use mathlib.Core.Path.{_≡_};
 ghost use Rattle.format.specs.Named.{named};
 
-/// Document 01's limits. They belong to the format, so a test says `Limits::TREE` and never a number.
+/// The documents' limits. They belong to the format, so a test says `Limits::TREE` and never a number.
 pub struct Limits;
 
 impl Limits {
@@ -35,6 +35,9 @@ impl Limits {
     pub const DIVISOR: usize = 10000;
 
     pub const WORK: usize = 65536;
+
+    /// In entries.
+    pub const POSITIONS: usize = 2730;
 }
 
 /// The limits as values, so that a contract can speak of them all at once.
@@ -54,6 +57,7 @@ pub struct Named {
     pub grouping: usize,
     pub divisor: usize,
     pub work: usize,
+    pub positions: usize,
 }
 
 /// Each constant is the definitions' number of that name: constants are inlined, so only a contract can tie the two.
@@ -76,5 +80,6 @@ pub fn all() -> Named
         grouping: Limits::GROUPING,
         divisor: Limits::DIVISOR,
         work: Limits::WORK,
+        positions: Limits::POSITIONS,
     }
 }

@@ -1,17 +1,17 @@
 -- The map of the work area, by name: the parts that stand at fixed places, and the rooms between them. Each of its
 -- numbers stands here alone. That all fits is shown in MapLaws.
-use Prim.Native.Nat.{ℕ, _+_, _-_, _*_}
-use Rattle.spec_trees.specs.Limits.{arrayMax, treeMax}
+use Prim.Native.Nat.{ℕ, _+_, _-_, _*_, _/_}
+use Rattle.spec_trees.specs.Limits.{arrayMax, treeMax, positionsMin, workMin}
 use Rattle.map.specs.declared.map.Parts.{Parts}
 
 -- the trees of an array of the largest size, without its head
 abbrev pub treesMax : ℕ
 treesMax = arrayMax - 3
 
--- behind an array, a number of two bytes for each tree that it may have: at the front those of the arranged trees, at
--- the end kept free
+-- a number of two bytes for each tree that an array may have, its position: those of the arranged trees stand behind
+-- them at the front, those of the collected trees at the end of the work area
 abbrev pub numbers : ℕ
-numbers = 5460
+numbers = 2 * positionsMin
 
 -- the front part, in a stretch that begins with a group: the array that entered it
 abbrev pub frontPart : ℕ
@@ -19,11 +19,23 @@ frontPart = arrayMax + numbers
 
 -- the end part, of every tail: the collected array
 abbrev pub endPart : ℕ
-endPart = arrayMax + numbers
+endPart = arrayMax
 
 -- where the collector begins, in an area of n bytes
 abbrev pub collectorAt : ℕ → ℕ
 collectorAt n = n - endPart
+
+-- what is lent to the stages: all but the positions of the collected trees
+abbrev pub lentPart : ℕ
+lentPart = workMin - numbers
+
+-- the collected array, at the end of what is lent
+abbrev pub collectedAt : ℕ
+collectedAt = collectorAt lentPart
+
+-- the position of the collected tree at x, counted from there: a tree has six bytes or more, so no two share a place
+abbrev pub positionAt : ℕ → ℕ
+positionAt x = lentPart + 2 * (x / 6)
 
 -- n rooms, of a tree each
 abbrev pub rooms : ℕ → ℕ
@@ -47,4 +59,4 @@ groupMin = frontPart + tailMin
 
 -- the code's constants of these names: `map::all` answers this
 abbrev pub parts : Parts
-parts = record { trees = treesMax; numbers = numbers; front = frontPart; end = endPart }
+parts = record { trees = treesMax; numbers = numbers; front = frontPart; end = endPart; lent = lentPart; collected = collectedAt }

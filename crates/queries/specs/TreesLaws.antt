@@ -1,12 +1,13 @@
--- Trees that stand one behind another, as the list of an array: the first and the rest, none, and those behind an
--- array's head.
-use mathlib.Core.Path.{_≡_, refl, sym, subst}
+-- Trees that stand one behind another, as the list of an array: the first and the rest, none, those behind an array's
+-- head, and how many bytes they take.
+use mathlib.Core.Path.{_≡_, refl, sym, ap, subst, _∙_}
 use mathlib.Core.List.{List, [], _∷_, _++_}
 use Prim.Native.Nat.{ℕ, _+_, _≤_}
 use native.Mathlib.Omega.{arith}
-use lib.ListN.{length}
+use lib.ListN.{length, length-append}
 use lib.Seq.{take-all}
 use Rattle.spec_trees.specs.Tree.{Tree, trees}
+use Rattle.spec_trees.specs.SizeLaws.{length-tree, tree-six}
 use Rattle.spec_trees.specs.Bytes.{bytes, treeF, treeFs, treeBytes, arrayF, arrayBytes}
 use Rattle.areas.specs.Area.{Is, fieldEnd}
 use Rattle.areas.specs.AreaLaws.{is-content, is-join, is-left, is-right}
@@ -65,3 +66,19 @@ unfolding arrayBytes arrayF
 array-reads s ts z =
     let all : Is s 0 (length s) s = record { lies = take-all (length s) s (omega arith); ends = omega arith; inside = omega arith } in
     is-content (1, bytes (treeFs (trees ts))) (subst (Is s 0 (length s)) z all)
+
+-- ---- a tree has six bytes or more
+pub six : (t : Tree) → 6 ≤ length (treeBytes t)
+six t = omega (arith, tree-six t, length-tree t)
+
+-- ---- the bytes of a tree and of those behind it
+pub trees-cons : (t : Tree) (ts : List Tree) → arrayTrees (t ∷ ts) ≡ treeBytes t ++ arrayTrees ts
+unfolding bytes treeF treeBytes
+trees-cons t ts = refl
+
+pub length-cons : (t : Tree) (ts : List Tree) → length (arrayTrees (t ∷ ts)) ≡ length (treeBytes t) + length (arrayTrees ts)
+length-cons t ts = ap length (trees-cons t ts) ∙ length-append (treeBytes t) (arrayTrees ts)
+
+pub length-none : length (arrayTrees []) ≡ 0
+unfolding bytes treeFs
+length-none = refl

@@ -11,6 +11,7 @@ use Rattle.spec_trees.specs.Within.{Within}
 use Rattle.spec_queries.specs.Query.{Pair}
 use Rattle.spec_queries.specs.Again.{distinctTargets, regrouped}
 use Rattle.spec_stages.specs.Stages.{going, stages}
+use Rattle.spec_stages.specs.Positions.{numbered, carried}
 use Rattle.queries.specs.declared.stage.GroupAt.{GroupAt}
 use Rattle.stretches.specs.declared.ended.Ended.{Ended}
 use Rattle.queries.specs.Places.{Pairs}
@@ -33,4 +34,5 @@ pub record RegroupReady (q : List ℕ) (at : GroupAt) (a b w : List ℕ) : Type 
 -- whatever they are, r says what the regrouping of the first array's trees, and behind them the second's, comes to
 abbrev pub Regroups : (q : List ℕ) (at : GroupAt) (a b v : List ℕ) → Ended → Type 0
 Regroups q at a b v r = (ag gs : List Pair) (ts us : List Tree) → Pairs q at ag gs → distinctTargets ag gs ≡ true
-    → a ≡ arrayBytes ts → Within ts → b ≡ arrayBytes us → Within us → EndedIs v r (stages [] (regrouped ag gs ∷ []) (going (ts ++ us)))
+    → a ≡ arrayBytes ts → Within ts → b ≡ arrayBytes us → Within us
+    → EndedIs v r (stages [] (regrouped ag gs ∷ []) (going (ts ++ us))) (carried [] (regrouped ag gs ∷ []) (numbered 1 (ts ++ us)))

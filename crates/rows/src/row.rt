@@ -5,6 +5,7 @@ use cases::compare::Check;
 use cases::compare::Verdict;
 use cases::compare::compare;
 use cases::compare::compare_check;
+use cases::positions::least_entries;
 use row_text::lines::begins;
 use row_text::lines::line_end;
 use row_text::lines::next_line;
@@ -17,7 +18,8 @@ use row_text::place::line_feed;
 use row_text::place::number;
 use row_text::place::word;
 
-/// Room for the bytes of a row: those of the longest, where each argument is just past its limit, are 36,867.
+/// Room for the bytes of a row: those of the longest, with as many trees in the input and the result as an array holds
+/// and a position for each, are 38,232.
 const BYTES: usize = 40960;
 
 /// The name of a row: the rest of its first line, or all of it where it is no row.
@@ -40,6 +42,35 @@ fn expected_result(row: &[u8], place: Place, bytes: &mut [u8]) -> Place {
         return argument(row, place, b"result ", bytes);
     }
     place
+}
+
+/// The positions that are expected, if they are stated and the number that was read last is 0.
+fn expected_positions(row: &[u8], place: Place, stated: bool, bytes: &mut [u8]) -> Place {
+    if stated && place.value == 0 {
+        return argument(row, place, b"positions ", bytes);
+    }
+    place
+}
+
+/// Whether a row states how many entries the position area has, and with it the positions that are expected.
+fn states_entries(row: &[u8], place: Place, call: Call) -> bool {
+    match call {
+        Call::Run => number(row, place).sound,
+        Call::Regroup => false,
+    }
+}
+
+/// How many entries the position area has: as many as the row states, or as a run needs.
+fn entries(row: &[u8], place: Place, stated: bool) -> Place {
+    if stated {
+        return number(row, place);
+    }
+    Place {
+        at: place.at,
+        end: place.end,
+        value: least_entries(),
+        sound: place.sound,
+    }
 }
 
 /// The verdict of a row whose call only checks.
@@ -74,12 +105,15 @@ fn result_row(row: &[u8], place: Place, call: Call) -> Verdict {
     let mut bytes = [0u8; BYTES];
     let w = number(row, place);
     let r = number(row, w);
-    let q = argument(row, line_feed(row, r), b"query ", &mut bytes);
+    let stated = states_entries(row, r, call);
+    let k = entries(row, r, stated);
+    let q = argument(row, line_feed(row, k), b"query ", &mut bytes);
     let f = first_array(row, q, call, &mut bytes);
     let s = second_array(row, f, call, &mut bytes);
     let n = expected_number(row, s);
     let e = expected_result(row, n, &mut bytes);
-    if !is_read(row, e) {
+    let p = expected_positions(row, e, stated, &mut bytes);
+    if !is_read(row, p) {
         return Verdict::Malformed;
     }
     let c = Case {
@@ -88,8 +122,11 @@ fn result_row(row: &[u8], place: Place, call: Call) -> Verdict {
         first_end: f.end,
         second_end: s.end,
         result_end: e.end,
+        positions_end: p.end,
         work: w.value,
         room: r.value,
+        entries: k.value,
+        stated,
         number: n.value as u64,
     };
     compare(&bytes, c)

@@ -5,7 +5,7 @@ use Prim.Native.Nat.{ℕ}
 use Rattle.spec_run.specs.declared.answer.Answer.{Answer}
 use Rattle.spec_run.specs.declared.answer.Answer.the-variants.{Accepted, Refused}
 use Rattle.spec_run.specs.Refusal.{numberOf}
-use Rattle.spec_run.specs.Run.{Call, Verdict, numberIn, lengthIn, resultAfter, plainRun}
+use Rattle.spec_run.specs.Run.{Call, Verdict, numberIn, lengthIn, resultAfter, plainRun, plainPositions}
 use Rattle.spec_run.specs.Regroup.{RegroupCall, plainRegroup}
 
 -- an answer's number and length
@@ -17,15 +17,16 @@ abbrev pub lengthened : Answer → ℕ
 lengthened (Accepted n) = n
 lengthened (Refused r) = 0
 
--- The call c is answered by this number and this length, with the result area and the work area left so: all four are
--- the plain run's of this call
-pub record Answered (c : Call) (number length : ℕ) (result work : List ℕ) : Type 0 where
+-- The call c is answered by this number and this length, with the result, the work and the position area left so: all
+-- five are the plain run's of this call
+pub record Answered (c : Call) (number length : ℕ) (result work positions : List ℕ) : Type 0 where
   pub number-is : number ≡ plainRun c .number
   pub length-is : length ≡ plainRun c .length
   pub result-is : result ≡ plainRun c .result
   pub work-is : work ≡ plainRun c .work
+  pub positions-is : positions ≡ plainPositions c
 
--- The same of the regrouping call: all four are the plain regrouping's of this call
+-- The same of the regrouping call, which has no position area: all four are the plain regrouping's of this call
 pub record Regrouped (c : RegroupCall) (number length : ℕ) (result work : List ℕ) : Type 0 where
   pub number-is : number ≡ plainRegroup c .number
   pub length-is : length ≡ plainRegroup c .length

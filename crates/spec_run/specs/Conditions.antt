@@ -7,7 +7,7 @@ use mathlib.Core.Bool.{true}
 use mathlib.Core.Option.{some}
 use Prim.Native.Nat.{ℕ, _≤_}
 use lib.ListN.{length}
-use Rattle.spec_trees.specs.Limits.{depthMax, workMin}
+use Rattle.spec_trees.specs.Limits.{depthMax, workMin, positionsMin}
 use Rattle.spec_trees.specs.Lists.{filter, all, gather, each}
 use Rattle.spec_trees.specs.ListLaws.{All-filter, All-gather}
 use Rattle.spec_trees.specs.Tree.{Tree}
@@ -25,10 +25,11 @@ use Rattle.spec_stages.specs.Project.{projected}
 use Rattle.spec_stages.specs.Lookup.{looked}
 use Rattle.spec_stages.specs.Group.{grouped, classTree}
 use Rattle.spec_stages.specs.Stages.{State, going, isGroup, performed, leaving, after, step, stages}
+use Rattle.spec_stages.specs.Positions.{resultPositions}
 use Rattle.spec_stages.specs.UnwoundLaws.{unwound-allowed}
 use Rattle.spec_stages.specs.StageLaws.{fits-of}
 use Rattle.spec_stages.specs.LeaveLaws.{projected-leave, looked-leave, group-step}
-use Rattle.spec_run.specs.Run.{call, final, Outcome, outcomeOf, plainRun}
+use Rattle.spec_run.specs.Run.{Call, call, final, Outcome, outcomeOf, positionsAfter, plainRun, plainPositions}
 use Rattle.spec_run.specs.RunLaws.{reads-verdict}
 
 all-fit : (ts : List Tree) → AllowedA ts → all fits ts ≡ true
@@ -55,62 +56,69 @@ stage-alone us ts w (project is) o = ap after (projected-leave is ts)
 stage-alone us ts w (group ag gs) o = group-step us ag gs ts (w .small)
 stage-alone us ts w (lookup q r p) o = ap after (looked-leave q r p us ts (w .allowed))
 
--- an input and a joined array within the limits, a work area that is long enough, any result area
+-- an input and a joined array within the limits, a work and a position area that are long enough, any result area
 module _ (ts us : List Tree) (wt : Within ts) (wu : Within us)
-    (work : List ℕ) (enough : workMin ≤ length work) (area : List ℕ) where
-  -- the outcome of a list of stages
-  abbrev ran : List Stage → Outcome
-  ran ss = plainRun (call (queryBytes ss) (arrayBytes ts) (arrayBytes us) work area)
+    (work : List ℕ) (enough : workMin ≤ length work) (area positions : List ℕ) (entries : positionsMin ≤ length positions) where
+  -- the call with the query of these stages
+  abbrev asked : List Stage → Call
+  asked ss = call (queryBytes ss) (arrayBytes ts) (arrayBytes us) work area positions
 
-  -- that of a run whose stages come to this state
-  abbrev comes : State → Outcome
-  comes st = outcomeOf area work (final (length area) st)
+  -- its outcome, and the position area after it
+  abbrev ran : List Stage → Outcome × List ℕ
+  ran ss = (plainRun (asked ss), plainPositions (asked ss))
+
+  -- those of a run whose stages come to this state, the trees of the list bearing their positions
+  abbrev comes : List Stage → State → Outcome × List ℕ
+  comes ss st =
+      let x = final (length area) (resultPositions us ss ts) st in
+      (outcomeOf area work x, positionsAfter positions x)
 
   -- what a list of stages, of none to eight, comes to: one statement about the whole list
-  pub run-stages : (ss : List Stage) → OkQ ss → ran ss ≡ comes (stages us ss (going ts))
-  unfolding plainRun
+  pub run-stages : (ss : List Stage) → OkQ ss → ran ss ≡ comes ss (stages us ss (going ts))
+  unfolding plainRun plainPositions
   run-stages ss o =
-      ap (outcomeOf area work)
-      (reads-verdict (call (queryBytes ss) (arrayBytes ts) (arrayBytes us) work area) ss ts us
+      ap (λ x. (outcomeOf area work x, positionsAfter positions x))
+      (reads-verdict (asked ss) ss ts us
       record {
         enough = enough;
+        entries = entries;
         query = read-query (queryBytes ss) ss .1 (query-back ss o);
         input = read-array (arrayBytes ts) ts .1 (array-back ts wt);
         joined = read-array (arrayBytes us) us .1 (array-back us wu);
       })
 
   -- the query of one stage
-  pub run-alone : (s : Stage) → OkQ (s ∷ []) → ran (s ∷ []) ≡ comes (after (performed us s ts))
+  pub run-alone : (s : Stage) → OkQ (s ∷ []) → ran (s ∷ []) ≡ comes (s ∷ []) (after (performed us s ts))
   unfolding stages
-  run-alone s o = run-stages (s ∷ []) o ∙ ap comes (stage-alone us ts wt s o)
+  run-alone s o = run-stages (s ∷ []) o ∙ ap (comes (s ∷ [])) (stage-alone us ts wt s o)
 
   -- ---- and so, stage by stage
   -- the trees that meet the criterion, in order
   pub match-alone : (c : Criterion) → OkQ (match c ∷ [])
-      → ran (match c ∷ []) ≡ comes (going (filter (holds c) ts))
+      → ran (match c ∷ []) ≡ comes (match c ∷ []) (going (filter (holds c) ts))
   unfolding performed after
   match-alone c o = run-alone (match c) o
 
   -- the outcomes of each tree, in order
   pub unwind-alone : (p : Path) → OkQ (unwind p ∷ [])
-      → ran (unwind p ∷ []) ≡ comes (going (gather (unwound p) ts))
+      → ran (unwind p ∷ []) ≡ comes (unwind p ∷ []) (going (gather (unwound p) ts))
   unfolding performed after
   unwind-alone p o = run-alone (unwind p) o
 
   -- what the items make of each tree; 8, if one is too large
   pub project-alone : (is : List Item) → OkQ (project is ∷ [])
-      → ran (project is ∷ []) ≡ comes (after (each (projected is) ts))
+      → ran (project is ∷ []) ≡ comes (project is ∷ []) (after (each (projected is) ts))
   unfolding performed
   project-alone is o = run-alone (project is) o
 
   -- the tree of each class; 8, if one is too large
   pub group-alone : (ag gs : List Pair) → OkQ (group ag gs ∷ [])
-      → ran (group ag gs ∷ []) ≡ comes (after (each (classTree ag gs) (grouped gs ts)))
+      → ran (group ag gs ∷ []) ≡ comes (group ag gs ∷ []) (after (each (classTree ag gs) (grouped gs ts)))
   unfolding performed
   group-alone ag gs o = run-alone (group ag gs) o
 
   -- each tree with its place of the joined trees that match; 8, if one is too large
   pub lookup-alone : (q r p : Path) → OkQ (lookup q r p ∷ [])
-      → ran (lookup q r p ∷ []) ≡ comes (after (each (looked q r p us) ts))
+      → ran (lookup q r p ∷ []) ≡ comes (lookup q r p ∷ []) (after (each (looked q r p us) ts))
   unfolding performed
   lookup-alone q r p o = run-alone (lookup q r p) o

@@ -29,10 +29,12 @@ pub record RanTray (q j : List ℕ) (k : Tray) : Type 0 where
   pub input : List ℕ
   pub work : List ℕ
   pub area : List ℕ
+  pub positions : List ℕ
   pub length : ℕ
   pub left : List ℕ
   pub cleared : List ℕ
-  pub answered : Answered (call q input j work area) 0 length left cleared
+  pub entries : List ℕ
+  pub answered : Answered (call q input j work area positions) 0 length left cleared entries
   pub input-is : IsArray input (k .input)
   pub result-is : decodeArray (take length left) ≡ some (k .result)
 

@@ -20,12 +20,14 @@ use Rattle.spec_queries.specs.Again.{distinctTargets, regrouped, regrouping}
 use Rattle.spec_queries.specs.QueryLaws.{read-query}
 use Rattle.spec_stages.specs.Stages.{going, stages}
 use Rattle.spec_stages.specs.Join.{GroupFree}
+use Rattle.spec_stages.specs.Positions.{resultPositions}
 use Rattle.spec_stages.specs.Trays.{Tray, trayOf, inputs, results, TrayRun, Grouped, Folded, nothing, alone, paired}
 use Rattle.spec_stages.specs.TrayLaws.{trays-join, run-grouped, grouped-same, runs-regroup, folded-regroup}
 use Rattle.spec_run.specs.Run.{call, resultBytes}
 use Rattle.spec_run.specs.Regroup.{regroupCall}
+use Rattle.spec_run.specs.Answer.{Answered}
 use Rattle.spec_run.specs.Day.{IsQuery, IsArray, RanTray, RegroupedTwo, Day, empty, one, both}
-use Rattle.spec_run.specs.RunLaws.{accepted-out, accepted-is, accepted-within, result-is}
+use Rattle.spec_run.specs.RunLaws.{Gives, accepted-out, accepted-is, accepted-within, result-is}
 use Rattle.spec_run.specs.RegroupLaws.{accepted-regroup, regroup-is, regroup-within}
 
 -- what the result bytes are read as is what was written
@@ -34,17 +36,23 @@ read-back b fs rs e w d = some-equal fs rs (sym (array-back fs w) ∙ sym (ap de
 
 -- ---- one run
 module _ {q j : List ℕ} {ss : List Stage} {us : List Tree} (iq : IsQuery q ss) (ij : IsArray j us) where
-  ran-tray : (k : Tray) → RanTray q j k → TrayRun us ss k
-  ran-tray k h =
-      let c = call q (h .input) j (h .work) (h .area) in
-      let (ls, ts, ws, fs, g) = accepted-out c (sym (h .answered .number-is)) in
+  -- answered by 0, it read these pieces, and gave what its result bytes are read as
+  pub answered-gives : {i work area positions : List ℕ} {n : ℕ} {left cleared entries : List ℕ} {ts : List Tree} (fs : List Tree)
+      → Answered (call q i j work area positions) 0 n left cleared entries → IsArray i ts → decodeArray (take n left) ≡ some fs
+      → Gives (call q i j work area positions) ss ts us fs
+  answered-gives {i} {work} {area} {positions} {n} {left} {cleared} {entries} {ts} fs h ii r =
+      let c = call q i j work area positions in
+      let (ls, is, ws, gs, g) = accepted-out c (sym (h .number-is)) in
       let a : ls ≡ ss = some-equal ls ss (sym (read-query q ls .0 (g .reads .query)) ∙ iq .read) in
-      let b : ts ≡ k .input = some-equal ts (k .input) (sym (read-array (h .input) ts .0 (g .reads .input)) ∙ h .input-is .read) in
+      let b : is ≡ ts = some-equal is ts (sym (read-array i is .0 (g .reads .input)) ∙ ii .read) in
       let d : ws ≡ us = some-equal ws us (sym (read-array j ws .0 (g .reads .joined)) ∙ ij .read) in
-      let l : take (h .length) (h .left) ≡ arrayBytes fs =
-      ap₂ take (h .answered .length-is) (h .answered .result-is) ∙ ap resultBytes (accepted-is c ls ts ws fs g) ∙ result-is (h .area) (h .work) (arrayBytes fs) in
-      let e = read-back (take (h .length) (h .left)) fs (k .result) l (accepted-within c ls ts ws fs (iq .bytes) (h .input-is .bytes) (ij .bytes) g) (h .result-is) in
-      sym (ap₂ (λ x y. stages x y (going (k .input))) d a) ∙ sym (ap (λ x. stages ws ls (going x)) b) ∙ g .ran ∙ ap going e
+      let l : take n left ≡ arrayBytes gs =
+      ap₂ take (h .length-is) (h .result-is) ∙ ap resultBytes (accepted-is c ls is ws gs g) ∙ result-is area work (arrayBytes gs) (resultPositions ws ls is) in
+      let e = read-back (take n left) gs fs l (accepted-within c ls is ws gs (iq .bytes) (ii .bytes) (ij .bytes) g) r in
+      rw (a, b, d, e) at g
+
+  ran-tray : (k : Tray) → RanTray q j k → TrayRun us ss k
+  ran-tray k h = answered-gives (k .result) (h .answered) (h .input-is) (h .result-is) .ran
 
   ran-trays : (ks : List Tray) → All (RanTray q j) ks → All (TrayRun us ss) ks
   ran-trays ks h = All-imply (RanTray q j) (TrayRun us ss) ran-tray ks h
@@ -68,7 +76,7 @@ module _ {g : List ℕ} {ag gs : List Pair} (ig : IsQuery g (group ag gs ∷ [])
       let p : ts ≡ ps = some-equal ts ps (sym (read-array (h .first) ts .0 (k .reads .first)) ∙ h .first-is .read) in
       let q : us ≡ qs = some-equal us qs (sym (read-array (h .second) us .0 (k .reads .second)) ∙ h .second-is .read) in
       let l : take (h .length) (h .left) ≡ arrayBytes fs =
-      ap₂ take (h .answered .length-is) (h .answered .result-is) ∙ ap resultBytes (regroup-is c ls s ts us fs k) ∙ result-is (h .area) (h .work) (arrayBytes fs) in
+      ap₂ take (h .answered .length-is) (h .answered .result-is) ∙ ap resultBytes (regroup-is c ls s ts us fs k) ∙ result-is (h .area) (h .work) (arrayBytes fs) [] in
       let e = read-back (take (h .length) (h .left)) fs rs l (regroup-within c ls s ts us (ig .bytes) (h .first-is .bytes) (h .second-is .bytes) (k .reads) fs k) (h .result-is) in
       sym (ap (λ x. stages [] (x ∷ []) (going (ps ++ qs))) z) ∙ sym (ap₂ (λ x y. stages [] (s ∷ []) (going (x ++ y))) p q) ∙ k .ran ∙ ap going e
 

@@ -4,6 +4,7 @@ pub mod Run
 pub mod Regroup
 pub mod Answer
 pub mod Day
+pub mod Lines
 pub mod Cut
 pub mod Program
 -- Laws.
@@ -12,5 +13,6 @@ pub mod RunLaws
 pub mod CutLaws
 pub mod RegroupLaws
 pub mod DayLaws
+pub mod LinesLaws
 pub mod Conditions
 pub mod Examples

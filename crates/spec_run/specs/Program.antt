@@ -4,7 +4,7 @@ use mathlib.Core.Bool.{cond}
 use Prim.Native.Nat.{ℕ, _+_, _*_, _/_, _%_}
 use lib.ListN.{take, drop, replicate}
 use lib.Dec.{ltb, eqb}
-use Rattle.spec_trees.specs.Limits.{arrayMax, workMin}
+use Rattle.spec_trees.specs.Limits.{arrayMax, workMin, positionsMin}
 use Rattle.spec_run.specs.Run.{call, Outcome, plainRun, resultBytes}
 
 -- how many bytes it reads at most
@@ -43,7 +43,7 @@ unfoldable pub answered : List ℕ → Outcome
 answered s =
     let rest = drop (headed s) s in
     plainRun
-    (call (take (headed s) s) (take (headed rest) rest) (drop (headed rest) rest) (replicate workMin 0) (replicate arrayMax 0))
+    (call (take (headed s) s) (take (headed rest) rest) (drop (headed rest) rest) (replicate workMin 0) (replicate arrayMax 0) (replicate positionsMin 0))
 
 unfoldable pub program : List ℕ → List ℕ
 program input = shown (answered (take programMax input))

@@ -1,13 +1,16 @@
--- Document 01's table of refusals: its causes, in the order in which they are tested, their numbers, and what each
--- leaves in the result area. Read areas never change.
+-- The documents' table of refusals: its causes, in the order in which they are tested, their numbers, and what each
+-- leaves in the areas. The position area is left as the result area is: unchanged by 1 to 7 and 11, zero after 8 to 10.
+-- Read areas never change.
 use mathlib.Core.Bool.{Bool, true, false}
 use Prim.Native.Nat.{ℕ}
 use Rattle.spec_run.specs.declared.answer.Refusal.{Refusal}
-use Rattle.spec_run.specs.declared.answer.Refusal.the-variants.{WorkShort, QueryLong, QueryMalformed, InputLong, InputMalformed, JoinedLong, JoinedMalformed, TreeLarge, GroupLong, ResultLong}
+use Rattle.spec_run.specs.declared.answer.Refusal.the-variants.{WorkShort, PositionsShort, QueryLong, QueryMalformed, InputLong, InputMalformed, JoinedLong, JoinedMalformed, TreeLarge, GroupLong, ResultLong}
 
 abbrev pub numberOf : Refusal → ℕ
 -- work area under 65,536 bytes
 numberOf WorkShort = 1
+-- position area under 2,730 entries
+numberOf PositionsShort = 11
 -- query over 4,096 bytes
 numberOf QueryLong = 2
 -- query malformed
@@ -27,9 +30,10 @@ numberOf GroupLong = 9
 -- final array over 16,384 bytes or over the result area
 numberOf ResultLong = 10
 
--- whether the result area is left as it was; else it is all zero
+-- whether the result and the position area are left as they were; else they are all zero
 unfoldable pub keepsResult : Refusal → Bool
 keepsResult WorkShort = true
+keepsResult PositionsShort = true
 keepsResult QueryLong = true
 keepsResult QueryMalformed = true
 keepsResult InputLong = true
@@ -39,3 +43,17 @@ keepsResult JoinedMalformed = true
 keepsResult TreeLarge = false
 keepsResult GroupLong = false
 keepsResult ResultLong = false
+
+-- whether the work area is left as it was; else it is all zero
+unfoldable pub keepsWork : Refusal → Bool
+keepsWork WorkShort = true
+keepsWork PositionsShort = true
+keepsWork QueryLong = false
+keepsWork QueryMalformed = false
+keepsWork InputLong = false
+keepsWork InputMalformed = false
+keepsWork JoinedLong = false
+keepsWork JoinedMalformed = false
+keepsWork TreeLarge = false
+keepsWork GroupLong = false
+keepsWork ResultLong = false

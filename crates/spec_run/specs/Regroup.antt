@@ -1,4 +1,4 @@
--- The plain answer of the regrouping call, which takes a group and two tray results.
+-- The plain answer of the regrouping call, which takes a group and two tray results, and no position area.
 use mathlib.Core.List.{List, [], _∷_, _++_}
 use mathlib.Core.Bool.{cond}
 use mathlib.Core.Option.{Option, none, some}
@@ -40,7 +40,7 @@ regroupVerdictOf q a b work room =
     asking (regrouping ss) QueryMalformed λ s.
     reading (readArray a) InputLong InputMalformed λ ts.
     reading (readArray b) InputLong InputMalformed λ us.
-    final room (stages [] (s ∷ []) (going (ts ++ us)))
+    final room [] (stages [] (s ∷ []) (going (ts ++ us)))
     )
     (refused WorkShort)
 

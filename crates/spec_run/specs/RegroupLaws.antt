@@ -7,7 +7,7 @@ use Prim.Native.Nat.{ℕ, _≤_, _<_}
 use native.Mathlib.Omega.{arith}
 use lib.ListN.{length}
 use lib.Dec.{leb, leb→le}
-use Rattle.spec_trees.specs.Limits.{arrayMax, workMin}
+use Rattle.spec_trees.specs.Limits.{arrayMax, workMin, positionsMin}
 use Rattle.spec_trees.specs.ListLaws.{All-append}
 use Rattle.spec_trees.specs.Lists.{All}
 use Rattle.spec_trees.specs.Tree.{Tree}
@@ -27,13 +27,14 @@ use Rattle.spec_queries.specs.AgainLaws.{regrouping-group, regrouping-alone}
 use Rattle.spec_queries.specs.RegroupingLaws.{regrouping-ok}
 use Rattle.spec_queries.specs.QueryLaws.{query-only, query-back, read-query}
 use Rattle.spec_stages.specs.Stages.{going, long, performed, step, stages}
+use Rattle.spec_stages.specs.Positions.{resultPositions}
 use Rattle.spec_stages.specs.LeaveLaws.{group-long}
 use Rattle.spec_stages.specs.KeepLaws.{stages-allowed}
 use Rattle.spec_run.specs.declared.answer.Refusal.{Refusal}
 use Rattle.spec_run.specs.declared.answer.Refusal.the-variants.{WorkShort, QueryLong, QueryMalformed, InputLong, InputMalformed, GroupLong}
 use Rattle.spec_run.specs.Run.{call, Verdict, gives, refused, reading, final, outcomeOf, plainRun}
 use Rattle.spec_run.specs.Regroup.{RegroupCall, asking, regroupVerdictOf, regroupVerdict, plainRegroup}
-use Rattle.spec_run.specs.RunLaws.{reads-verdict, reading-out, cond-out, final-out, accepts-gives, Short, outcome-short, bytes-short}
+use Rattle.spec_run.specs.RunLaws.{reads-verdict, reading-out, cond-out, final-out, accepts-gives, outcome-same, Short, outcome-short, bytes-short}
 
 -- ---- the tests passed: the query is one group alone, s is its regrouping, and the arrays hold these trees
 pub record RegroupReads (c : RegroupCall) (ss : List Stage) (s : Stage) (ts us : List Tree) : Type 0 where
@@ -44,7 +45,7 @@ pub record RegroupReads (c : RegroupCall) (ss : List Stage) (s : Stage) (ts us :
   pub second : readArray (c .second) ≡ accepted us
 
 pub reads-regroup : (c : RegroupCall) (ss : List Stage) (s : Stage) (ts us : List Tree) → RegroupReads c ss s ts us
-    → regroupVerdict c ≡ final (length (c .result)) (stages [] (s ∷ []) (going (ts ++ us)))
+    → regroupVerdict c ≡ final (length (c .result)) [] (stages [] (s ∷ []) (going (ts ++ us)))
 unfolding regroupVerdict regroupVerdictOf reading asking
 reads-regroup c ss s ts us r = rw (leb-yes workMin (length (c .work)) (r .enough), r .query, r .such, r .first, r .second) refl
 
@@ -55,7 +56,7 @@ pub record RegroupGives (c : RegroupCall) (ss : List Stage) (s : Stage) (ts us f
   pub small : arraySize fs ≤ arrayMax
   pub fits : arraySize fs ≤ length (c .result)
 
-pub gives-regroup : (c : RegroupCall) (ss : List Stage) (s : Stage) (ts us fs : List Tree) → RegroupGives c ss s ts us fs → regroupVerdict c ≡ gives (arrayBytes fs)
+pub gives-regroup : (c : RegroupCall) (ss : List Stage) (s : Stage) (ts us fs : List Tree) → RegroupGives c ss s ts us fs → regroupVerdict c ≡ gives (arrayBytes fs) []
 unfolding final
 gives-regroup c ss s ts us fs g =
     reads-regroup c ss s ts us (g .reads)
@@ -65,20 +66,20 @@ gives-regroup c ss s ts us fs g =
 abbrev pub RegroupTold : RegroupCall → Type 0
 RegroupTold c = (ss : List Stage) × (s : Stage) × (ts : List Tree) × (us : List Tree) × (fs : List Tree) × RegroupGives c ss s ts us fs
 
-asking-out : {A : Type 0} (x : Option A) (r : Refusal) (f : A → Verdict) (b : List ℕ) → asking x r f ≡ gives b → (a : A) × (x ≡ some a) × (f a ≡ gives b)
+asking-out : {A : Type 0} (x : Option A) (r : Refusal) (f : A → Verdict) (b ps : List ℕ) → asking x r f ≡ gives b ps → (a : A) × (x ≡ some a) × (f a ≡ gives b ps)
 unfolding asking
-asking-out none r f b e = let z : _≡_ {A = ℕ} 0 1 = cc in absurd (omega arith)
-asking-out (some a) r f b e = (a, refl, e)
+asking-out none r f b ps e = let z : _≡_ {A = ℕ} 0 1 = cc in absurd (omega arith)
+asking-out (some a) r f b ps e = (a, refl, e)
 
-regroup-out : (c : RegroupCall) (b : List ℕ) → regroupVerdict c ≡ gives b → RegroupTold c
+regroup-out : (c : RegroupCall) (b ps : List ℕ) → regroupVerdict c ≡ gives b ps → RegroupTold c
 unfolding regroupVerdict regroupVerdictOf
-regroup-out c b e =
-    let (w, e0) = cond-out (leb workMin (length (c .work))) _ WorkShort b e in
-    let (ss, a, e1) = reading-out (readQuery (c .query)) QueryLong QueryMalformed _ b e0 in
-    let (s, k, e2) = asking-out (regrouping ss) QueryMalformed _ b e1 in
-    let (ts, d, e3) = reading-out (readArray (c .first)) InputLong InputMalformed _ b e2 in
-    let (us, f, e4) = reading-out (readArray (c .second)) InputLong InputMalformed _ b e3 in
-    let (fs, g, n, m) = final-out (length (c .result)) (stages [] (s ∷ []) (going (ts ++ us))) b e4 in (
+regroup-out c b ps e =
+    let (w, e0) = cond-out (leb workMin (length (c .work))) _ WorkShort b ps e in
+    let (ss, a, e1) = reading-out (readQuery (c .query)) QueryLong QueryMalformed _ b ps e0 in
+    let (s, k, e2) = asking-out (regrouping ss) QueryMalformed _ b ps e1 in
+    let (ts, d, e3) = reading-out (readArray (c .first)) InputLong InputMalformed _ b ps e2 in
+    let (us, f, e4) = reading-out (readArray (c .second)) InputLong InputMalformed _ b ps e3 in
+    let (fs, g, n, m) = final-out (length (c .result)) [] (stages [] (s ∷ []) (going (ts ++ us))) b ps e4 in (
       ss,
       s,
       ts,
@@ -89,18 +90,18 @@ regroup-out c b e =
 
 pub accepted-regroup : (c : RegroupCall) → plainRegroup c .number ≡ 0 → RegroupTold c
 unfolding plainRegroup outcomeOf
-accepted-regroup c e = let (b, g) = accepts-gives (regroupVerdict c) e in regroup-out c b g
+accepted-regroup c e = let (b, ps, g) = accepts-gives (regroupVerdict c) e in regroup-out c b ps g
 
 pub regroup-is : (c : RegroupCall) (ss : List Stage) (s : Stage) (ts us fs : List Tree) → RegroupGives c ss s ts us fs
-    → plainRegroup c ≡ outcomeOf (c .result) (c .work) (gives (arrayBytes fs))
+    → plainRegroup c ≡ outcomeOf (c .result) (c .work) (gives (arrayBytes fs) [])
 unfolding plainRegroup
 regroup-is c ss s ts us fs g = ap (outcomeOf (c .result) (c .work)) (gives-regroup c ss s ts us fs g)
 
 pub regroup-short : (c : RegroupCall) → Short (c .result) (plainRegroup c)
 unfolding plainRegroup
-regroup-short c = outcome-short (c .result) (c .work) (regroupVerdict c) (λ b e.
-    let (ss, s, ts, us, fs, g) = regroup-out c b e in
-    bytes-short fs (regroupVerdict c) b (length (c .result)) (gives-regroup c ss s ts us fs g) e (g .small) (g .fits))
+regroup-short c = outcome-short (c .result) (c .work) (regroupVerdict c) (λ b ps e.
+    let (ss, s, ts, us, fs, g) = regroup-out c b ps e in
+    bytes-short fs (regroupVerdict c) [] b ps (length (c .result)) (gives-regroup c ss s ts us fs g) e (g .small) (g .fits))
 
 -- ---- what such a group is, and its regrouping
 pub record IsGroup (ss : List Stage) (s : Stage) : Type 0 where
@@ -141,22 +142,26 @@ module _ (c : RegroupCall) (ss : List Stage) (s : Stage) (ts us : List Tree)
   second-within = array-only (c .second) us bb (read-array (c .second) us .0 (r .second)) .1
 
   -- where the join is an array within the limits, the call answers as the run of the regrouping over the join, whatever
-  -- joined array that run is lent: number, length and both areas
-  pub regroup-answers : arraySize (ts ++ us) ≤ arrayMax → (ws : List Tree) → Within ws
-      → plainRegroup c ≡ plainRun (call (queryBytes (s ∷ [])) (arrayBytes (ts ++ us)) (arrayBytes ws) (c .work) (c .result))
+  -- joined array that run is lent, and whatever position area that is long enough: number, length, result and work area
+  pub regroup-answers : arraySize (ts ++ us) ≤ arrayMax → (ws : List Tree) → Within ws → (positions : List ℕ) → positionsMin ≤ length positions
+      → plainRegroup c ≡ plainRun (call (queryBytes (s ∷ [])) (arrayBytes (ts ++ us)) (arrayBytes ws) (c .work) (c .result) positions)
   unfolding plainRegroup plainRun
-  regroup-answers small ws o =
-      let d = call (queryBytes (s ∷ [])) (arrayBytes (ts ++ us)) (arrayBytes ws) (c .work) (c .result) in
+  regroup-answers small ws o positions entries =
+      let d = call (queryBytes (s ∷ [])) (arrayBytes (ts ++ us)) (arrayBytes ws) (c .work) (c .result) positions in
+      let area = length (c .result) in
+      let ps = resultPositions ws (s ∷ []) (ts ++ us) in
       let join : Within (ts ++ us) = record { allowed = All-append _ ts us (first-within .allowed) (second-within .allowed); small = small } in
       let v = reads-verdict d (s ∷ []) (ts ++ us) ws record {
         enough = r .enough;
+        entries = entries;
         query = read-query (queryBytes (s ∷ [])) (s ∷ []) .1 (query-back (s ∷ []) (query-such .allowed));
         input = read-array (arrayBytes (ts ++ us)) (ts ++ us) .1 (array-back (ts ++ us) join);
         joined = read-array (arrayBytes ws) ws .1 (array-back ws o);
       } in
       let same : stages [] (s ∷ []) (going (ts ++ us)) ≡ stages ws (s ∷ []) (going (ts ++ us)) =
       subst (λ x. stages [] (x ∷ []) (going (ts ++ us)) ≡ stages ws (x ∷ []) (going (ts ++ us))) (sym (query-such .again-is)) (group-any _ _ [] ws (ts ++ us)) in
-      ap (outcomeOf (c .result) (c .work)) (reads-regroup c ss s ts us r ∙ ap (final (length (c .result))) same ∙ sym v)
+      ap (outcomeOf (c .result) (c .work)) (reads-regroup c ss s ts us r ∙ ap (final area []) same)
+      ∙ outcome-same (c .result) (c .work) area [] ps (stages ws (s ∷ []) (going (ts ++ us))) ∙ ap (outcomeOf (c .result) (c .work)) (sym v)
 
   -- where it is not, the call is refused by 9
   pub regroup-long : arrayMax < arraySize (ts ++ us) → regroupVerdict c ≡ refused GroupLong
@@ -164,7 +169,7 @@ module _ (c : RegroupCall) (ss : List Stage) (s : Stage) (ts us : List Tree)
   regroup-long over =
       let z : stages [] (s ∷ []) (going (ts ++ us)) ≡ long =
       ap (λ x. stages [] (x ∷ []) (going (ts ++ us))) (query-such .again-is) ∙ group-long [] _ _ (ts ++ us) over in
-      reads-regroup c ss s ts us r ∙ ap (final (length (c .result))) z
+      reads-regroup c ss s ts us r ∙ ap (final (length (c .result)) []) z
 
   -- what an accepted call gives is an array within the limits
   pub regroup-within : (fs : List Tree) → RegroupGives c ss s ts us fs → Within fs

@@ -4,27 +4,30 @@ use mathlib.Core.Bool.{cond, _&&_}
 use Prim.Native.Nat.{ℕ}
 use lib.ListN.{length, take, drop, replicate}
 use lib.Dec.{leb}
-use Rattle.spec_trees.specs.Limits.{arrayMax, workMin}
+use Rattle.spec_trees.specs.Limits.{arrayMax, workMin, positionsMin}
 use Rattle.spec_trees.specs.Size.{arraySize}
 use Rattle.spec_trees.specs.Bytes.{arrayBytes}
 use Rattle.spec_trees.specs.Readers.{Tested, accepted, overlong, malformed}
 use Rattle.spec_trees.specs.Decode.{readArray}
 use Rattle.spec_queries.specs.Decode.{readQuery}
 use Rattle.spec_stages.specs.Stages.{State, going, large, long, stages}
+use Rattle.spec_stages.specs.Positions.{resultPositions}
 use Rattle.spec_run.specs.declared.answer.Refusal.{Refusal}
-use Rattle.spec_run.specs.declared.answer.Refusal.the-variants.{WorkShort, QueryLong, QueryMalformed, InputLong, InputMalformed, JoinedLong, JoinedMalformed, TreeLarge, GroupLong, ResultLong}
-use Rattle.spec_run.specs.Refusal.{numberOf, keepsResult}
+use Rattle.spec_run.specs.declared.answer.Refusal.the-variants.{WorkShort, PositionsShort, QueryLong, QueryMalformed, InputLong, InputMalformed, JoinedLong, JoinedMalformed, TreeLarge, GroupLong, ResultLong}
+use Rattle.spec_run.specs.Refusal.{numberOf, keepsResult, keepsWork}
 
--- ---- what a call is lent: three areas to read, a work area and a result area, each of any length and content
+-- ---- what a call is lent: three areas to read, a work area, a result area and a position area, each of any length and
+-- content; of bytes, but the position area of 16-bit numbers
 pub record Call : Type 0 where
   pub query : List ℕ
   pub input : List ℕ
   pub joined : List ℕ
   pub work : List ℕ
   pub result : List ℕ
+  pub positions : List ℕ
 
-abbrev pub call : List ℕ → List ℕ → List ℕ → List ℕ → List ℕ → Call
-call q i j w r = record { query = q; input = i; joined = j; work = w; result = r }
+abbrev pub call : List ℕ → List ℕ → List ℕ → List ℕ → List ℕ → List ℕ → Call
+call q i j w r p = record { query = q; input = i; joined = j; work = w; result = r; positions = p }
 
 -- what it returns, and the result and the work area after it
 pub record Outcome : Type 0 where
@@ -33,9 +36,9 @@ pub record Outcome : Type 0 where
   pub result : List ℕ
   pub work : List ℕ
 
--- ---- what a run comes to: the bytes of an array, or a refusal
+-- ---- what a run comes to: the bytes of an array and the positions that its trees bear, or a refusal
 pub data Verdict : Type 0 where
-  gives : List ℕ → Verdict
+  gives : List ℕ → List ℕ → Verdict
   refused : Refusal → Verdict
 
 -- tests of a lent piece: over its limit, or malformed; else on with what it holds
@@ -44,51 +47,62 @@ reading (accepted a) r s f = f a
 reading overlong r s f = refused r
 reading malformed r s f = refused s
 
--- after the last stage: a list that, as an array, passes 16,384 bytes or the room in the result area is refused
-unfoldable pub final : ℕ → State → Verdict
-final room large = refused TreeLarge
-final room long = refused GroupLong
-final room (going ts) =
-    cond (leb (arraySize ts) arrayMax && leb (arraySize ts) room) (gives (arrayBytes ts)) (refused ResultLong)
+-- after the last stage: a list that, as an array, passes 16,384 bytes or the room in the result area is refused; its
+-- trees bear the positions ps
+unfoldable pub final : ℕ → List ℕ → State → Verdict
+final room ps large = refused TreeLarge
+final room ps long = refused GroupLong
+final room ps (going ts) =
+    cond (leb (arraySize ts) arrayMax && leb (arraySize ts) room) (gives (arrayBytes ts) ps) (refused ResultLong)
 
--- query, input, joined array, the lengths of the work and of the result area: tests 1 to 7, then the stages in the
--- query's order over the input's list of trees
-unfoldable pub verdictOf : List ℕ → List ℕ → List ℕ → ℕ → ℕ → Verdict
-verdictOf q i j work room =
+-- query, input, joined array, the lengths of the work, the position and the result area: tests 1, 11 and 2 to 7, then
+-- the stages in the query's order over the input's list of trees
+unfoldable pub verdictOf : List ℕ → List ℕ → List ℕ → ℕ → ℕ → ℕ → Verdict
+verdictOf q i j work entries room =
     cond (leb workMin work)
+    (
+    cond (leb positionsMin entries)
     (
     reading (readQuery q) QueryLong QueryMalformed λ ss.
     reading (readArray i) InputLong InputMalformed λ ts.
     reading (readArray j) JoinedLong JoinedMalformed λ us.
-    final room (stages us ss (going ts))
+    final room (resultPositions us ss ts) (stages us ss (going ts))
+    )
+    (refused PositionsShort)
     )
     (refused WorkShort)
 
--- of the work area only its length counts
+-- of the work and the position area only their lengths count
 unfoldable pub verdict : Call → Verdict
-verdict c = verdictOf (c .query) (c .input) (c .joined) (length (c .work)) (length (c .result))
+verdict c = verdictOf (c .query) (c .input) (c .joined) (length (c .work)) (length (c .positions)) (length (c .result))
 
--- ---- what is left in the two areas
+-- ---- what is left in the three areas
 unfoldable pub zeros : List ℕ → List ℕ
 zeros area = replicate (length area) 0
 
--- all zero if it is long enough, else as it was
-unfoldable pub workAfter : List ℕ → List ℕ
-workAfter work = cond (leb workMin (length work)) (zeros work) work
+-- all zero, but after 1 and 11 as it was
+unfoldable pub workAfter : List ℕ → Verdict → List ℕ
+workAfter work (gives b ps) = zeros work
+workAfter work (refused r) = cond (keepsWork r) work (zeros work)
 
 -- result bytes beyond the length keep their value
 unfoldable pub resultAfter : List ℕ → Verdict → List ℕ
-resultAfter area (gives b) = b ++ drop (length b) area
+resultAfter area (gives b ps) = b ++ drop (length b) area
 resultAfter area (refused r) = cond (keepsResult r) area (zeros area)
+
+-- one entry for each result tree; later entries keep their value
+unfoldable pub positionsAfter : List ℕ → Verdict → List ℕ
+positionsAfter area (gives b ps) = ps ++ drop (length ps) area
+positionsAfter area (refused r) = cond (keepsResult r) area (zeros area)
 
 -- ---- the plain run
 unfoldable pub numberIn : Verdict → ℕ
-numberIn (gives b) = 0
+numberIn (gives b ps) = 0
 numberIn (refused r) = numberOf r
 
 -- a refusal gives length 0
 unfoldable pub lengthIn : Verdict → ℕ
-lengthIn (gives b) = length b
+lengthIn (gives b ps) = length b
 lengthIn (refused r) = 0
 
 -- of a result area and a work area
@@ -97,11 +111,15 @@ outcomeOf area work x = record {
   number = numberIn x;
   length = lengthIn x;
   result = resultAfter area x;
-  work = workAfter work;
+  work = workAfter work x;
 }
 
 unfoldable pub plainRun : Call → Outcome
 plainRun c = outcomeOf (c .result) (c .work) (verdict c)
+
+-- what it leaves in the position area
+unfoldable pub plainPositions : Call → List ℕ
+plainPositions c = positionsAfter (c .positions) (verdict c)
 
 -- the result bytes
 abbrev pub resultBytes : Outcome → List ℕ

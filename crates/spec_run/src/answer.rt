@@ -4,6 +4,8 @@
 pub enum Refusal {
     /// The work area has under 65,536 bytes.
     WorkShort,
+    /// The position area has under 2,730 entries.
+    PositionsShort,
     /// The query has over 4,096 bytes.
     QueryLong,
     QueryMalformed,

@@ -19,6 +19,7 @@ pub mod Equivalence
 pub mod Permutes
 pub mod Sums
 pub mod Flat
+pub mod Positions
 -- Laws.
 pub mod DecisionLaws
 pub mod EqualityLaws
@@ -43,4 +44,8 @@ pub mod KeysLaws
 pub mod ReadLaws
 pub mod RegroupLaws
 pub mod TrayLaws
+pub mod FirstMemberLaws
+pub mod PositionLaws
+pub mod LocalLaws
 pub mod Examples
+pub mod PositionExamples

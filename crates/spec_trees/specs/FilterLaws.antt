@@ -176,3 +176,19 @@ module _ {A B : Type 0} (f : A → Option B) where
         each-cond (q x) x (filter q xs) (c .first-is) (each-filter q xs (a .1) (c .others-are))
         ∙ ap (λ b. some (cond b (c .first ∷ kept) kept)) (ap q (sym (a .0 (c .first) (c .first-is))))
         ∙ ap (λ l. some (filter (λ y. q (g y)) l)) (c .all-are)
+
+pub gather-map : {A B C : Type 0} (f : B → List C) (g : A → B) (xs : List A) → gather f (map g xs) ≡ gather (λ x. f (g x)) xs
+unfolding gather
+gather-map f g [] = refl
+gather-map f g (x ∷ xs) = ap (λ l. f (g x) ++ l) (gather-map f g xs)
+
+-- where a test passes all or nothing of what g gives, it may as well be put before g
+pub gather-filter : {A B : Type 0} (f : B → Bool) (q : A → Bool) (g : A → List B) → ((x : A) → filter f (g x) ≡ cond (q x) (g x) [])
+    → (xs : List A) → filter f (gather g xs) ≡ gather g (filter q xs)
+unfolding filter gather
+gather-filter f q g h [] = refl
+gather-filter f q g h (x ∷ xs) = filter-append f (g x) (gather g xs) ∙ ap₂ _++_ (h x) (gather-filter f q g h xs) ∙ go (q x)
+  where
+    go : (b : Bool) → cond b (g x) [] ++ gather g (filter q xs) ≡ gather g (cond b (x ∷ filter q xs) (filter q xs))
+    go true = refl
+    go false = refl

@@ -57,3 +57,7 @@ divisorMax = 10000
 -- the least work area that a run takes
 abbrev pub workMin : ℕ
 workMin = 65536
+
+-- the least position area that a run takes, in entries: as many as an array has trees, of six bytes or more
+abbrev pub positionsMin : ℕ
+positionsMin = 2730

@@ -1,7 +1,7 @@
--- The byte form of a tree or an array is as long as its size; and what holds of a tree's parts.
+-- The byte form of a tree or an array is as long as its size; what holds of a tree's parts; and the least size.
 use mathlib.Core.Path.{_≡_, refl, ap}
 use mathlib.Core.List.{List, [], _∷_, map}
-use Prim.Native.Nat.{_+_}
+use Prim.Native.Nat.{_+_, _*_, _≤_}
 use native.Mathlib.Omega.{arith}
 use lib.ListN.{length, length-append}
 use Rattle.spec_trees.specs.Tree.{Root, void, boolean, integer, text, Tree, node, Trees, ε, _▹_, Labels, bare, label, list, trees}
@@ -51,3 +51,20 @@ pub treeFs-map : (ts : List Tree) → treeFs (trees ts) ≡ map treeF ts
 unfolding treeF
 treeFs-map [] = refl
 treeFs-map (t ∷ ts) = ap (λ fs. treeF t ∷ fs) (treeFs-map ts)
+
+-- ---- a tree has six bytes or more
+root-three : (r : Root) → 3 ≤ rootSize r
+unfolding rootSize
+root-three void = omega arith
+root-three (boolean b) = omega arith
+root-three (integer z) = omega arith
+root-three (text s) = omega arith
+
+pub tree-six : (t : Tree) → 6 ≤ size t
+unfolding size
+tree-six (node r ls) = omega (arith, root-three r)
+
+pub six-each : (ts : List Tree) → 6 * length ts ≤ sizeA (trees ts)
+unfolding sizeA
+six-each [] = omega arith
+six-each (t ∷ ts) = omega (arith, tree-six t, six-each ts)

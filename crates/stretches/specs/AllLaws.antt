@@ -1,12 +1,12 @@
 -- The first stretch and the later ones come to what the plain run's stages come to.
 use mathlib.Core.Path.{_≡_, refl, sym, ap, subst, _∙_}
 use mathlib.Core.List.{List}
-use Prim.Native.Nat.{ℕ}
+use Prim.Native.Nat.{ℕ, _≤_}
 use native.Mathlib.Omega.{arith}
 use lib.ListN.{length}
-use Rattle.spec_trees.specs.Limits.{workMin}
+use Rattle.spec_trees.specs.Limits.{positionsMin, workMin}
 use Rattle.spec_trees.specs.Lists.{All}
-use Rattle.spec_trees.specs.ListLaws.{All-left}
+use Rattle.spec_trees.specs.ListLaws.{All-left, All-imply}
 use Rattle.spec_trees.specs.Tree.{Tree}
 use Rattle.spec_trees.specs.Bytes.{arrayBytes}
 use Rattle.spec_trees.specs.SizeLaws.{length-array}
@@ -22,12 +22,17 @@ use Rattle.spec_stages.specs.KeepLaws.{stages-allowed}
 use Rattle.stream.specs.declared.collector.Collector.{Collector}
 use Rattle.spec_stages.specs.Stretch.{before, behind}
 use Rattle.spec_stages.specs.StretchLaws.{before-behind, stretch, before-short}
+use Rattle.spec_stages.specs.Positions.{numbered, carried}
+use Rattle.spec_stages.specs.PositionLaws.{carried-then, carried-within}
 use Rattle.map.specs.MapLaws.{first-fits}
+use Rattle.positions.specs.BearingLaws.{few-trees}
 use Rattle.stream.specs.Feed.{Planned}
 use Rattle.stretches.specs.declared.ended.Ended.{Ended}
 use Rattle.stretches.specs.Ended.{EndedIs, Forms, Runs}
-use Rattle.stretches.specs.Stretch.{FirstReady, FirstPost}
+use Rattle.first_stretch.specs.First.{FirstReady, FirstPost}
+use Rattle.stretch.specs.Carry.{Positions}
 use Rattle.stretches.specs.Later.{Allows, LaterReady, LaterPost}
+use Rattle.stretches.specs.LaterLaws.{size-is}
 
 module _ {q : List ℕ} {x : Span} (reads : ReadsQuery q x) where
   plan : {j : List ℕ} (ss : List Stage) (us : List Tree) → q ≡ queryBytes ss → OkQ ss → j ≡ arrayBytes us → Within us → Planned q x j ss us
@@ -41,8 +46,8 @@ module _ {q : List ℕ} {x : Span} (reads : ReadsQuery q x) where
       list = h .query;
       joined = h .joined;
       planned = plan (h .query) (h .joined) (h .query-is) (h .query-ok) (h .joined-is) (h .joined-ok);
-      room = omega (arith, first-fits (length (before (h .query))) (omega (arith, before-short (h .query), h .query-ok .count)));
-      small = omega arith;
+      room = first-fits (length (before (h .query))) (omega (arith, before-short (h .query), h .query-ok .count));
+      size = l;
     }
 
     module _ {v : List ℕ} {s : Collector} (k : length v ≡ length w) (f : FirstPost i v q x j s) where
@@ -52,13 +57,20 @@ module _ {q : List ℕ} {x : Span} (reads : ReadsQuery q x) where
       allows ss ts us a b c large y = tt
       allows ss ts us a b c long y = tt
 
+      positions-of : (ss : List Stage) (ts us : List Tree) → Within ts → Positions (carried us (before ss) (numbered 1 ts))
+      positions-of ss ts us o =
+          let n : length ts ≤ positionsMin = omega (arith, few-trees ts, size-is ts, o .small) in
+          All-imply _ _ (λ b k. (k .0, omega (arith, k .1))) (carried us (before ss) (numbered 1 ts)) (carried-within us (before ss) ts)
+
       pub all-later : LaterReady v q x j s
       all-later =
           let p = plan (h .query) (h .joined) (h .query-is) (h .query-ok) (h .joined-is) (h .joined-ok) in
           record {
             state = stages (h .joined) (before (h .query)) (going (h .input));
+            borne = carried (h .joined) (before (h .query)) (numbered 1 (h .input));
             shown = f (h .input) (h .query) (h .joined) (h .input-ok .allowed) (array-reads i (h .input) (h .input-is)) p;
             allowed = allows (h .query) (h .input) (h .joined) (h .query-ok .stages) (h .input-ok .allowed) (h .joined-ok .allowed) _ refl;
+            positions = positions-of (h .query) (h .input) (h .joined) (h .input-ok);
             list = h .query;
             joined = h .joined;
             planned = p;
@@ -69,6 +81,9 @@ module _ {q : List ℕ} {x : Span} (reads : ReadsQuery q x) where
       pub all-runs : {u : List ℕ} {r : Ended} → LaterPost v u q x j s r → Runs q i j u r
       all-runs {u} {r} g ss ts us a b c d e1 o =
           let p = plan ss us a b e1 o in
-          subst (λ st. EndedIs u r st) (sym (stretch us ss (going ts)))
-          (g (stages us (before ss) (going ts)) ss us (f ts ss us (d .allowed) (array-reads i ts c) p)
-          (allows ss ts us (b .stages) (d .allowed) (o .allowed) _ refl) p)
+          let borne : carried us ss (numbered 1 ts) ≡ carried us (behind ss) (carried us (before ss) (numbered 1 ts)) =
+          ap (λ l. carried us l (numbered 1 ts)) (sym (before-behind ss)) ∙ carried-then us (before ss) (behind ss) (numbered 1 ts) in
+          subst (λ st. EndedIs u r st (carried us ss (numbered 1 ts))) (sym (stretch us ss (going ts)))
+          (subst (λ bs. EndedIs u r (stages us (behind ss) (stages us (before ss) (going ts))) bs) (sym borne)
+          (g (stages us (before ss) (going ts)) (carried us (before ss) (numbered 1 ts)) ss us (f ts ss us (d .allowed) (array-reads i ts c) p)
+          (allows ss ts us (b .stages) (d .allowed) (o .allowed) _ refl) (positions-of ss ts us d) p))

@@ -1,8 +1,8 @@
--- What the answer of all stretches says: the state that the plain run's stages come to, and where its trees stand.
+-- What the answer of all stretches says: the state that the plain run's stages come to, where its trees stand, and which
+-- positions they bear.
 use mathlib.Core.Path.{_≡_}
 use mathlib.Core.List.{List}
 use Prim.Native.Nat.{ℕ, _+_, _≤_, _<_}
-use lib.ListN.{length}
 use Rattle.spec_trees.specs.Limits.{arrayMax}
 use Rattle.spec_trees.specs.Tree.{Tree}
 use Rattle.spec_trees.specs.Size.{arraySize}
@@ -14,14 +14,17 @@ use Rattle.spec_queries.specs.Bytes.{queryBytes}
 use Rattle.spec_queries.specs.Rules.{OkQ}
 use Rattle.queries.specs.Places.{arrayTrees}
 use Rattle.spec_stages.specs.Stages.{State, going, large, long, stages}
-use Rattle.map.specs.Map.{collectorAt}
+use Rattle.spec_stages.specs.Positions.{Borne, unmarked, numbered, carried}
+use Rattle.map.specs.Map.{collectedAt}
+use Rattle.positions.specs.Bearing.{Bears}
 use Rattle.stretches.specs.declared.ended.Ended.{Ended}
 
--- the trees of the state stand in the collector, n bytes of them, and are no more than an array may have
-pub record HeldIs (w : List ℕ) (n : ℕ) (st : State) : Type 0 where
-  pub trees : List Tree
-  pub same : st ≡ going trees
-  pub trees-are : Is w (collectorAt (length w)) (collectorAt (length w) + n) (arrayTrees trees)
+-- the trees of the state are bs, which stand in the collector, n bytes of them, bear their positions, and are no more than
+-- an array may have
+pub record HeldIs (w : List ℕ) (n : ℕ) (st : State) (bs : List Borne) : Type 0 where
+  pub same : st ≡ going (unmarked bs)
+  pub trees-are : Is w collectedAt (collectedAt + n) (arrayTrees (unmarked bs))
+  pub bears : Bears w 0 bs
   pub short : n + 3 ≤ arrayMax
 
 -- the trees of the state are more than an array may have
@@ -30,9 +33,9 @@ pub record FullIs (st : State) : Type 0 where
   pub same : st ≡ going trees
   pub over : arrayMax < arraySize trees
 
--- r says the state st; w is the area
-pub record EndedIs (w : List ℕ) (r : Ended) (st : State) : Type 0 where
-  pub held : (n : ℕ) → r ≡ Ended.Held n → HeldIs w n st
+-- r says the state st, whose trees are bs if it goes on; w is the area
+pub record EndedIs (w : List ℕ) (r : Ended) (st : State) (bs : List Borne) : Type 0 where
+  pub held : (n : ℕ) → r ≡ Ended.Held n → HeldIs w n st bs
   pub full : r ≡ Ended.Full → FullIs st
   pub large-is : r ≡ Ended.Large → st ≡ large
   pub long-is : r ≡ Ended.Long → st ≡ long
@@ -50,7 +53,7 @@ pub record Forms (q i j : List ℕ) : Type 0 where
   pub joined-is : j ≡ arrayBytes joined
   pub joined-ok : Within joined
 
--- whatever query and arrays these bytes are, r says what the plain run's stages come to
+-- whatever query and arrays these bytes are, r says what the plain run's stages come to, and what their trees bear
 abbrev pub Runs : (q i j w : List ℕ) → Ended → Type 0
 Runs q i j w r = (ss : List Stage) (ts us : List Tree) → q ≡ queryBytes ss → OkQ ss → i ≡ arrayBytes ts → Within ts → j ≡ arrayBytes us → Within us
-    → EndedIs w r (stages us ss (going ts))
+    → EndedIs w r (stages us ss (going ts)) (carried us ss (numbered 1 ts))

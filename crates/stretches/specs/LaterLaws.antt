@@ -1,12 +1,9 @@
 -- Laws of the later stretches: one after another they come to what the plain run's stages come to.
 use mathlib.Core.Path.{_≡_, refl, sym, ap, subst, _∙_}
 use mathlib.Core.List.{List, _∷_}
-use mathlib.Core.Bool.{true, false}
-use mathlib.Core.Option.{none}
 use Prim.Native.Nat.{ℕ, suc, _+_, _≤_, _<_}
 use native.Mathlib.Omega.{arith}
-use lib.ListN.{length, take, drop}
-use lib.Seq.{take-add, drop-at, length-take-le}
+use lib.ListN.{length}
 use Rattle.spec_trees.specs.Limits.{arrayMax, depthMax, stagesMax}
 use Rattle.spec_trees.specs.Lists.{All}
 use Rattle.spec_trees.specs.ListLaws.{All-left}
@@ -30,18 +27,23 @@ use Rattle.stream.specs.declared.collector.Collector.the-variants.{Len, Over, L
 use Rattle.spec_stages.specs.Stretch.{before, behind}
 use Rattle.spec_stages.specs.StretchLaws.{before-behind, before-short, stretch, stages-large, stages-long, shorter, behind-ok}
 use Rattle.spec_stages.specs.LeaveLaws.{group-step, group-long}
-use Rattle.map.specs.Map.{treesMax, endPart, collectorAt}
+use Rattle.spec_stages.specs.Positions.{Borne, unmarked, origin, carry, carried}
+use Rattle.spec_stages.specs.PositionLaws.{carried-then, carried-bear, carry-group, origin-bear}
+use Rattle.map.specs.Map.{treesMax, collectedAt}
 use Rattle.map.specs.MapLaws.{group-fits}
-use Rattle.stream.specs.Collector.{isLarge, ends, Collects, Fed}
+use Rattle.positions.specs.Bearing.{Bears}
+use Rattle.stream.specs.Collector.{isLarge}
 use Rattle.stream.specs.Feed.{Planned}
 use Rattle.arrange.specs.Index.{Collected}
 use Rattle.arrange.specs.Arrange.{Arranges}
 use Rattle.stretches.specs.declared.ended.Ended.{Ended}
-use Rattle.stretches.specs.declared.next.Next.{Next}
-use Rattle.stretches.specs.declared.next.StretchAt.{StretchAt}
+use Rattle.stretch.specs.declared.next.Next.{Next}
+use Rattle.stretch.specs.declared.next.StretchAt.{StretchAt}
+use Rattle.stretch.specs.Carry.{Position, Positions, Holds, Taken, Shows}
+use Rattle.stretch.specs.CarryLaws.{clash}
 use Rattle.stretches.specs.Ended.{HeldIs, FullIs, EndedIs}
-use Rattle.stretches.specs.Stretch.{Shows, GroupPlan, GroupReady, GroupPost, through}
-use Rattle.stretches.specs.Next.{StretchIs, NextPost}
+use Rattle.group_stretch.specs.Group.{GroupPlan, Stems, GroupReady, GroupPost, through, borneThrough}
+use Rattle.stretch.specs.Next.{StretchIs, NextPost}
 use Rattle.stretches.specs.Later.{Allows, LastPost, HeldReady, HeldPost, LaterReady, LaterPost}
 
 -- ---- sizes
@@ -50,94 +52,74 @@ unfolding arraySize
 size-is ts = omega (arith, length-treeFs (trees ts))
 
 -- ---- what a collector shows
--- not both
-clash : {P : Type 0} {s : Collector} → isLarge s ≡ false → s ≡ Large → P
-unfolding isLarge
-clash {s = s} o e = let z : isLarge s ≡ true = ap isLarge e in let y : _≡_ {A = ℕ} 0 1 = cc in absurd (omega arith)
+shown-held : (w : List ℕ) (n : ℕ) (st : State) (bs : List Borne) → Shows w (Len n) st bs → (st ≡ going (unmarked bs)) × Holds w (Len n) bs
+unfolding Taken isLarge
+shown-held w n (going ts) bs h = (ap going (sym (h .taken .0)), h .taken .1)
+shown-held w n large bs h = clash {s = Len n} refl (h .taken)
+shown-held w n long bs h = absurd (h .taken)
 
-record HeldState (w : List ℕ) (n : ℕ) (st : State) : Type 0 where
-  pub trees : List Tree
-  pub same : st ≡ going trees
-  pub collects : Collects w (Len n) (arrayTrees trees)
+shown-over : (w : List ℕ) (st : State) (bs : List Borne) → Shows w Over st bs → FullIs st
+unfolding Taken Holds isLarge
+shown-over w (going ts) bs h =
+    record { trees = ts; same = refl; over = omega (arith, subst (λ l. treesMax < length (arrayTrees l)) (h .taken .0) (h .taken .1), size-is ts) }
+shown-over w large bs h = clash {s = Over} refl (h .taken)
+shown-over w long bs h = absurd (h .taken)
 
-shown-held : (w : List ℕ) (n : ℕ) (st : State) → Shows w (Len n) st → HeldState w n st
-unfolding Fed isLarge
-shown-held w n (going ts) h = record { trees = ts; same = refl; collects = h .fed }
-shown-held w n large h = clash {s = Len n} refl (h .fed)
-shown-held w n long h = absurd (h .fed)
+shown-large : (w : List ℕ) (st : State) (bs : List Borne) → Shows w Large st bs → st ≡ large
+unfolding Taken Holds
+shown-large w (going ts) bs h = absurd (h .taken .1)
+shown-large w large bs h = refl
+shown-large w long bs h = absurd (h .taken)
 
-shown-over : (w : List ℕ) (st : State) → Shows w Over st → FullIs st
-unfolding Fed Collects isLarge
-shown-over w (going ts) h = record { trees = ts; same = refl; over = omega (arith, h .fed, size-is ts) }
-shown-over w large h = clash {s = Over} refl (h .fed)
-shown-over w long h = absurd (h .fed)
+holds-is : (w : List ℕ) (n : ℕ) (bs : List Borne) → Holds w (Len n) bs → Is w collectedAt (collectedAt + n) (arrayTrees (unmarked bs)) × (n ≤ treesMax) × Bears w 0 bs
+unfolding Holds
+holds-is w n bs h = h
 
-shown-large : (w : List ℕ) (st : State) → Shows w Large st → st ≡ large
-unfolding Fed Collects
-shown-large w (going ts) h = absurd (h .fed)
-shown-large w large h = refl
-shown-large w long h = absurd (h .fed)
-
--- what the collector holds stands at its place
-collects-is : (w : List ℕ) (n : ℕ) (xs : List ℕ) → endPart ≤ length w → Collects w (Len n) xs → Is w (collectorAt (length w)) (collectorAt (length w) + n) xs
-unfolding Collects
-collects-is w n xs b h =
-    let a = collectorAt (length w) in
-    record {
-      lies = ap (drop a) (take-add a n w) ∙ drop-at (take a w) (take n (drop a w)) a (length-take-le a w (omega arith)) ∙ h .2;
-      ends = omega (arith, h .0);
-      inside = omega (arith, h .1);
-    }
-
-collects-short : (w : List ℕ) (n : ℕ) (xs : List ℕ) → Collects w (Len n) xs → (n ≤ treesMax) × (n ≡ length xs)
-unfolding Collects
-collects-short w n xs h = (h .1, h .0)
+-- the trees of an array are few
+pub holds-short : (w : List ℕ) (n : ℕ) (bs : List Borne) → Holds w (Len n) bs → arraySize (unmarked bs) ≤ arrayMax
+holds-short w n bs h = let i = holds-is w n bs h in omega (arith, size-is (unmarked bs), i .0 .ends, i .1)
 
 -- ---- no group is left
 module _ {s : Collector} where
   pub last-held : {n : ℕ} → s ≡ Len n → LastPost s (Ended.Held n)
-  last-held {n} z w st b h =
-      let x = shown-held w n st (subst (λ y. Shows w y st) z h) in
+  last-held {n} z w st bs h =
+      let x = shown-held w n st bs (subst (λ y. Shows w y st bs) z h) in
+      let i = holds-is w n bs (x .1) in
       record {
         held = λ m q.
             let e : n ≡ m = cc in
-            subst (λ k. HeldIs w k st) e record {
-              trees = x .trees;
-              same = x .same;
-              trees-are = collects-is w n (arrayTrees (x .trees)) b (x .collects);
-              short = omega (arith, collects-short w n (arrayTrees (x .trees)) (x .collects));
-            };
+            subst (λ k. HeldIs w k st bs) e record { same = x .0; trees-are = i .0; bears = i .2; short = omega (arith, i .1) };
         full = λ q. let y : _≡_ {A = ℕ} 0 1 = cc in absurd (omega arith);
         large-is = λ q. let y : _≡_ {A = ℕ} 0 1 = cc in absurd (omega arith);
         long-is = λ q. let y : _≡_ {A = ℕ} 0 1 = cc in absurd (omega arith);
       }
 
   pub last-full : s ≡ Over → LastPost s Ended.Full
-  last-full z w st b h = record {
+  last-full z w st bs h = record {
     held = λ m q. let y : _≡_ {A = ℕ} 0 1 = cc in absurd (omega arith);
-    full = λ q. shown-over w st (subst (λ y. Shows w y st) z h);
+    full = λ q. shown-over w st bs (subst (λ y. Shows w y st bs) z h);
     large-is = λ q. let y : _≡_ {A = ℕ} 0 1 = cc in absurd (omega arith);
     long-is = λ q. let y : _≡_ {A = ℕ} 0 1 = cc in absurd (omega arith);
   }
 
   pub last-large : s ≡ Large → LastPost s Ended.Large
-  last-large z w st b h = record {
+  last-large z w st bs h = record {
     held = λ m q. let y : _≡_ {A = ℕ} 0 1 = cc in absurd (omega arith);
     full = λ q. let y : _≡_ {A = ℕ} 0 1 = cc in absurd (omega arith);
-    large-is = λ q. shown-large w st (subst (λ y. Shows w y st) z h);
+    large-is = λ q. shown-large w st bs (subst (λ y. Shows w y st bs) z h);
     long-is = λ q. let y : _≡_ {A = ℕ} 0 1 = cc in absurd (omega arith);
   }
 
-ends-large : (w : List ℕ) {st : State} → st ≡ large → EndedIs w Ended.Large st
-ends-large w z = record {
+ends-large : (w : List ℕ) {st : State} (bs : List Borne) → st ≡ large → EndedIs w Ended.Large st bs
+ends-large w bs z = record {
   held = λ m q. let y : _≡_ {A = ℕ} 0 1 = cc in absurd (omega arith);
   full = λ q. let y : _≡_ {A = ℕ} 0 1 = cc in absurd (omega arith);
   large-is = λ q. z;
   long-is = λ q. let y : _≡_ {A = ℕ} 0 1 = cc in absurd (omega arith);
 }
 
-pub ends-long : (w : List ℕ) {st : State} → st ≡ long → EndedIs w Ended.Long st
-ends-long w z = record {
+pub ends-long : (w : List ℕ) {st : State} (bs : List Borne) → st ≡ long → EndedIs w Ended.Long st bs
+ends-long w bs z = record {
   held = λ m q. let y : _≡_ {A = ℕ} 0 1 = cc in absurd (omega arith);
   full = λ q. let y : _≡_ {A = ℕ} 0 1 = cc in absurd (omega arith);
   large-is = λ q. let y : _≡_ {A = ℕ} 0 1 = cc in absurd (omega arith);
@@ -146,14 +128,14 @@ ends-long w z = record {
 
 -- ---- the stretches from here on
 module _ {q : List ℕ} {p : Span} {r : Next} (k : NextPost q p r) where
-  pub later-last : (w : List ℕ) {j : List ℕ} (s : Collector) (o : Ended) → r ≡ Next.End → endPart ≤ length w → LastPost s o → LaterPost w w q p j s o
-  unfolding stages
-  later-last w s o z b f st ss us h a d =
-      subst (λ l. EndedIs w o (stages us l st)) (sym (k ss (d .stages-is) .none z)) (f w st b h)
+  pub later-last : (w : List ℕ) {j : List ℕ} (s : Collector) (o : Ended) → r ≡ Next.End → LastPost s o → LaterPost w w q p j s o
+  unfolding stages carried
+  later-last w s o z f st bs ss us h a b d =
+      subst (λ l. EndedIs w o (stages us l st) (carried us l bs)) (sym (k ss (d .stages-is) .none z)) (f w st bs h)
 
   pub later-large : (w : List ℕ) {j : List ℕ} {s : Collector} → s ≡ Large → LaterPost w w q p j s Ended.Large
-  later-large w z st ss us h a d =
-      ends-large w (ap (stages us (behind ss)) (shown-large w st (subst (λ y. Shows w y st) z h)) ∙ stages-large us (behind ss))
+  later-large w z st bs ss us h a b d =
+      ends-large w (carried us (behind ss) bs) (ap (stages us (behind ss)) (shown-large w st bs (subst (λ y. Shows w y st bs) z h)) ∙ stages-large us (behind ss))
 
   module _ {at : StretchAt} (z : r ≡ Next.Group at) where
     here : (ss : List Stage) → IsAt q p (stagesBytes ss) → StretchIs q p ss at
@@ -193,6 +175,21 @@ module _ {q : List ℕ} {p : Span} {r : Next} (k : NextPost q p r) where
       next-is ts b =
           rest-is (going ts) ∙ ap (stages us (part .others)) (group-step us (part .aggregates) (part .grouping) ts b) ∙ stretch us (part .others) _
 
+      -- and the positions that they bear
+      next-borne : List Borne → List Borne
+      next-borne bs = carried us (before (part .others)) (carry us (group (part .aggregates) (part .grouping)) bs)
+
+      borne-is : (bs : List Borne) → carried us (behind ss) bs ≡ carried us (behind (part .others)) (next-borne bs)
+      unfolding next-borne carried
+      borne-is bs =
+          ap (λ l. carried us l bs) (part .same)
+          ∙ ap (λ l. carried us l (carry us (group (part .aggregates) (part .grouping)) bs)) (sym (before-behind (part .others)))
+          ∙ carried-then us (before (part .others)) (behind (part .others)) (carry us (group (part .aggregates) (part .grouping)) bs)
+
+      next-positions : (bs : List Borne) → Positions bs → Positions (next-borne bs)
+      unfolding next-borne carried
+      next-positions bs o = carried-bear Position us (group (part .aggregates) (part .grouping) ∷ before (part .others)) bs o
+
       next-allows : (ts : List Tree) → AllowedA ts → arraySize ts ≤ arrayMax → Allows (next-state ts)
       unfolding next-state through stages
       next-allows ts a b = go (next-state ts) (ap (stages us (before (part .others))) (group-step us (part .aggregates) (part .grouping) ts b))
@@ -207,21 +204,21 @@ module _ {q : List ℕ} {p : Span} {r : Next} (k : NextPost q p r) where
 
     -- an array that is too long enters it
     pub later-long : (w : List ℕ) {j : List ℕ} {s : Collector} → s ≡ Over → LaterPost w w q p j s Ended.Long
-    later-long w y st ss us h a d =
-        let x = shown-over w st (subst (λ l. Shows w l st) y h) in
+    later-long w y st bs ss us h a b d =
+        let x = shown-over w st bs (subst (λ l. Shows w l st bs) y h) in
         let c = part ss us d in
-        ends-long w (rest-is ss us d st ∙ ap (λ l. stages us (c .others) (step us (group (c .aggregates) (c .grouping)) l)) (x .same)
+        ends-long w (carried us (behind ss) bs) (rest-is ss us d st ∙ ap (λ l. stages us (c .others) (step us (group (c .aggregates) (c .grouping)) l)) (x .same)
         ∙ ap (stages us (c .others)) (group-long us (c .aggregates) (c .grouping) (x .trees) (x .over)) ∙ stages-long us (c .others))
 
     module _ {w : List ℕ} {s : Collector} {n : ℕ} (y : s ≡ Len n) where
-      held : (st : State) → Shows w s st → HeldState w n st
-      held st h = shown-held w n st (subst (λ l. Shows w l st) y h)
+      held : (st : State) (bs : List Borne) → Shows w s st bs → (st ≡ going (unmarked bs)) × Holds w (Len n) bs
+      held st bs h = shown-held w n st bs (subst (λ l. Shows w l st bs) y h)
 
-      held-allowed : (st : State) (h : Shows w s st) → Allows st → AllowedA (held st h .trees)
-      held-allowed st h a = subst Allows (held st h .same) a
+      held-allowed : (st : State) (bs : List Borne) → Shows w s st bs → Allows st → AllowedA (unmarked bs)
+      held-allowed st bs h a = subst Allows (held st bs h .0) a
 
-      held-short : (st : State) (h : Shows w s st) → arraySize (held st h .trees) ≤ arrayMax
-      held-short st h = omega (arith, size-is (held st h .trees), collects-short w n (arrayTrees (held st h .trees)) (held st h .collects))
+      held-short : (st : State) (bs : List Borne) → Shows w s st bs → arraySize (unmarked bs) ≤ arrayMax
+      held-short st bs h = holds-short w n bs (held st bs h .1)
 
       module _ {j : List ℕ} (l : LaterReady w q p j s) where
         abbrev ss₀ : List Stage
@@ -230,9 +227,11 @@ module _ {q : List ℕ} {p : Span} {r : Next} (k : NextPost q p r) where
         abbrev us₀ : List Tree
         us₀ = l .joined
 
+        abbrev bs₀ : List Borne
+        bs₀ = l .borne
+
         pub later-held : HeldReady w n q at j
         later-held =
-            let x = held (l .state) (l .shown) in
             let c = part ss₀ us₀ (l .planned) in
             let b = few-of ss₀ us₀ (l .planned) (l .few) in
             record {
@@ -243,27 +242,31 @@ module _ {q : List ℕ} {p : Span} {r : Next} (k : NextPost q p r) where
                 list = c .others;
                 joined = us₀;
                 planned = planned-of ss₀ us₀ (l .planned);
-                room = omega (arith, group-fits (length (before (c .others))) (omega (arith, before-short (c .others))), l .size);
-                small = omega (arith, l .size);
+                room = group-fits (length (before (c .others))) (omega (arith, before-short (c .others)));
+                small = omega arith;
               };
-              trees = x .trees;
-              allowed = held-allowed (l .state) (l .shown) (l .allowed);
-              collects = x .collects;
+              borne = bs₀;
+              allowed = held-allowed (l .state) bs₀ (l .shown) (l .allowed);
+              positions = l .positions;
+              holds = held (l .state) bs₀ (l .shown) .1;
               size = l .size;
             }
 
         module _ {x : List ℕ} {o : Collector} (b : length x ≡ length w) (i : HeldPost w x n q at j o) where
-          shown : (st : State) (ss : List Stage) (us : List Tree) (h : Shows w s st) → Allows st → (d : Planned q p j ss us) → Shows x o (next-state ss us d (held st h .trees))
-          unfolding next-state
-          shown st ss us h a d =
-              i (part ss us d .aggregates) (part ss us d .grouping) (held st h .trees) (part ss us d .others) us
-              (pairs-of ss us d) (held-allowed st h a) (held st h .collects) (planned-of ss us d)
+          shown : (st : State) (bs : List Borne) (ss : List Stage) (us : List Tree) → Shows w s st bs → Allows st → Positions bs → (d : Planned q p j ss us)
+              → Shows x o (next-state ss us d (unmarked bs)) (next-borne ss us d bs)
+          unfolding next-state next-borne
+          shown st bs ss us h a v d =
+              i (part ss us d .aggregates) (part ss us d .grouping) bs (part ss us d .others) us
+              (pairs-of ss us d) (held-allowed st bs h a) v (held st bs h .1) (planned-of ss us d)
 
           pub later-ready : LaterReady x q (at .next) j o
           later-ready = record {
-            state = next-state ss₀ us₀ (l .planned) (held (l .state) (l .shown) .trees);
-            shown = shown (l .state) ss₀ us₀ (l .shown) (l .allowed) (l .planned);
-            allowed = next-allows ss₀ us₀ (l .planned) (held (l .state) (l .shown) .trees) (held-allowed (l .state) (l .shown) (l .allowed)) (held-short (l .state) (l .shown));
+            state = next-state ss₀ us₀ (l .planned) (unmarked bs₀);
+            borne = next-borne ss₀ us₀ (l .planned) bs₀;
+            shown = shown (l .state) bs₀ ss₀ us₀ (l .shown) (l .allowed) (l .positions) (l .planned);
+            allowed = next-allows ss₀ us₀ (l .planned) (unmarked bs₀) (held-allowed (l .state) bs₀ (l .shown) (l .allowed)) (held-short (l .state) bs₀ (l .shown));
+            positions = next-positions ss₀ us₀ (l .planned) bs₀ (l .positions);
             list = part ss₀ us₀ (l .planned) .others;
             joined = us₀;
             planned = planned-of ss₀ us₀ (l .planned);
@@ -272,12 +275,12 @@ module _ {q : List ℕ} {p : Span} {r : Next} (k : NextPost q p r) where
           }
 
           pub later-next : {x2 : List ℕ} {o2 : Ended} → LaterPost x x2 q (at .next) j o o2 → LaterPost w x2 q p j s o2
-          later-next {x2} {o2} c st ss us h a d =
-              let ts = held st h .trees in
-              subst (λ y2. EndedIs x2 o2 y2)
-              (sym (ap (stages us (behind ss)) (held st h .same) ∙ next-is ss us d ts (held-short st h)))
-              (c (next-state ss us d ts) (part ss us d .others) us (shown st ss us h a d)
-              (next-allows ss us d ts (held-allowed st h a) (held-short st h)) (planned-of ss us d))
+          later-next {x2} {o2} c st bs ss us h a v d =
+              let ts = unmarked bs in
+              let all = c (next-state ss us d ts) (next-borne ss us d bs) (part ss us d .others) us (shown st bs ss us h a v d)
+              (next-allows ss us d ts (held-allowed st bs h a) (held-short st bs h)) (next-positions ss us d bs v) (planned-of ss us d) in
+              subst (λ y2. EndedIs x2 o2 y2 (carried us (behind ss) bs)) (sym (ap (stages us (behind ss)) (held st bs h .0) ∙ next-is ss us d ts (held-short st bs h)))
+              (subst (λ l2. EndedIs x2 o2 (stages us (behind (part ss us d .others)) (next-state ss us d ts)) l2) (sym (borne-is ss us d bs)) all)
 
 -- after some stretches: what those that are left come to is what all come to
 pub record LaterGoing (w₀ q : List ℕ) (p₀ : Span) (j : List ℕ) (s₀ : Collector) (w : List ℕ) (s : Collector) (p : Span) : Type 0 where
@@ -289,33 +292,35 @@ pub record LaterGoing (w₀ q : List ℕ) (p₀ : Span) (j : List ℕ) (s₀ : C
 grouped-allowed : (gs : List Pair) (ts : List Tree) → AllowedA ts → AllowedA (flat (grouped gs ts))
 grouped-allowed gs ts o = All-permutes (Allowed depthMax) (permutes-back (grouped-permutes gs ts)) o
 
+-- each class of trees that bear positions has one
+stems-of : (gs : List Pair) (bs : List Borne) → Positions bs → Stems (λ t. origin gs t bs) (grouped gs (unmarked bs))
+stems-of gs bs o = origin-bear Position gs bs o
+
 module _ {w : List ℕ} {n : ℕ} {q : List ℕ} {at : StretchAt} {j : List ℕ} (r : HeldReady w n q at j) where
-  collected : {ags gs : List Pair} (ts : List Tree) → Pairs q (at .group) ags gs → AllowedA ts → Collects w (Len n) (arrayTrees ts) → Collected w q (at .group .keys) n
-  collected {gs = gs} ts hp o h = record {
-    size = r .size;
-    short = collects-short w n (arrayTrees ts) h .0;
-    grouping = gs;
-    few = hp .grouping-ok .1;
-    grouping-is = hp .grouping-is;
-    trees = ts;
-    trees-ok = o;
-    trees-is = subst (λ b. Is w b (b + n) (arrayTrees ts)) (ap collectorAt (r .size)) (collects-is w n (arrayTrees ts) (omega (arith, r .size)) h);
-  }
+  collected : {ags gs : List Pair} (bs : List Borne) → Pairs q (at .group) ags gs → AllowedA (unmarked bs) → Holds w (Len n) bs → Collected w q (at .group .keys) n
+  collected {gs = gs} bs hp o h =
+      let i = holds-is w n bs h in
+      record { size = r .size; short = i .1; grouping = gs; few = hp .grouping-ok .1; grouping-is = hp .grouping-is; borne = bs; trees-ok = o; trees-is = i .0; bears = i .2 }
 
   pub held-collected : Collected w q (at .group .keys) n
-  held-collected = collected (r .trees) (r .plan .pairs) (r .allowed) (r .collects)
+  held-collected = collected (r .borne) (r .plan .pairs) (r .allowed) (r .holds)
 
   module _ {x : List ℕ} (l : length x ≡ length w) (k : Arranges w x q (at .group .keys) n) where
     pub held-group : GroupReady x n q at j
     unfolding held-collected collected
     held-group = record {
-      plan = subst (λ z. GroupPlan z q at j) (sym l) (r .plan);
-      classes = grouped (r .plan .grouping) (r .trees);
-      allowed = grouped-allowed (r .plan .grouping) (r .trees) (r .allowed);
+      plan = r .plan;
+      size = l ∙ r .size;
+      stem = λ t. origin (r .plan .grouping) t (r .borne);
+      classes = grouped (r .plan .grouping) (unmarked (r .borne));
+      stems = stems-of (r .plan .grouping) (r .borne) (r .positions);
+      allowed = grouped-allowed (r .plan .grouping) (unmarked (r .borne)) (r .allowed);
       stands = k held-collected;
       short = held-collected .short;
     }
 
     pub held-post : (x2 : List ℕ) (o : Collector) → GroupPost x x2 n q at j o → HeldPost w x2 n q at j o
-    unfolding collected
-    held-post x2 o p ags gs ts ss us hp a h hl = p ags gs (grouped gs ts) ss us hp (grouped-allowed gs ts a) (k (collected ts hp a h)) hl
+    unfolding collected borneThrough
+    held-post x2 o p ags gs bs ss us hp a v h hl =
+        subst (λ b. Shows x2 o (through us ss ags gs (grouped gs (unmarked bs))) (carried us (before ss) b)) (sym (carry-group us ags gs bs))
+        (p ags gs (λ t. origin gs t bs) (grouped gs (unmarked bs)) ss us hp (stems-of gs bs v) (grouped-allowed gs (unmarked bs) a) (k (collected bs hp a h)) hl)

@@ -4,8 +4,8 @@ ghost use lib.ListN.{length};
 ghost use Rattle.spec_trees.specs.Limits.{workMin};
 ghost use Rattle.stretches.specs.Ended.{Forms, Runs};
 use crate::ended::Ended;
-use crate::first::first;
 use crate::later::later;
+use first_stretch::first::first;
 use queries::stage::stages_of;
 
 /// All stretches of an admitted call, in a work area of 65,536 bytes. The result area is not touched.

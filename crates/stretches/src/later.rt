@@ -1,13 +1,13 @@
 //! The later stretches: the array that was collected enters the next group, again and again.
 ghost use Rattle.stretches.specs.Later.{LastPost, HeldReady, HeldPost, LaterReady, LaterPost};
 use crate::ended::Ended;
-use crate::group_stretch::regroup;
-use crate::next::Next;
-use crate::next::StretchAt;
-use crate::next::next_group;
 use areas::span::Span;
 use arrange::arrange::arrange;
+use group_stretch::classes::regroup;
 use stream::collector::Collector;
+use stretch::next::Next;
+use stretch::next::StretchAt;
+use stretch::next::next_group;
 
 /// How a run ends whose last stretch left this in the collector.
 pub fn last(collector: Collector) -> Ended

@@ -1,7 +1,4 @@
-//! The stretches of a run: the first, groups and what follows them, all of them.
+//! The stretches of a run, one after another.
 pub mod all;
 pub mod ended;
-pub mod first;
-pub mod group_stretch;
 pub mod later;
-pub mod next;

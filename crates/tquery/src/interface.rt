@@ -24,8 +24,9 @@ fn packed(answer: Answer) -> u64
     number(answer) * 4294967296 + length(answer) as u64
 }
 
-/// Runs the query: the number times 2 to the power 32, and the length. All five areas are the caller's. The first
-/// three are only read; what the other two hold afterwards is the plain run's, as the number and the length are.
+/// Runs the query: the number times 2 to the power 32, and the length. All six areas are the caller's. The first three
+/// are only read; what the other three hold afterwards is the plain run's, as the number and the length are. The
+/// position area's length is in entries.
 #[no_mangle]
 pub extern "C" fn tquery_run<'a>(
     query: &'a [u8],
@@ -33,14 +34,15 @@ pub extern "C" fn tquery_run<'a>(
     joined: &'a [u8],
     work: &mut [u8],
     result: &mut [u8],
+    positions: &mut [u16],
 ) -> u64
     ensures { λ r. ⌜
         Answered
-        (call (now (query .entry)) (now (input .entry)) (now (joined .entry)) (now (work .entry)) (now (result .entry)))
-        (numberFrom r) (lengthFrom r) (now (result .exit)) (now (work .exit))
+        (call (now (query .entry)) (now (input .entry)) (now (joined .entry)) (now (work .entry)) (now (result .entry)) (now (positions .entry)))
+        (numberFrom r) (lengthFrom r) (now (result .exit)) (now (work .exit)) (now (positions .exit))
         ⌝ }
 {
-    packed(run(query, input, joined, work, result))
+    packed(run(query, input, joined, work, result, positions))
 }
 
 /// Groups two arrays, joined, again by a query that is one group alone whose destinations are single, distinct labels:

@@ -3,7 +3,7 @@ use mathlib.Core.Path.{_≡_}
 use mathlib.Core.List.{List}
 use Prim.Native.Nat.{ℕ, _+_, _*_, _≤_}
 use lib.ListN.{length, replicate}
-use Rattle.spec_trees.specs.Limits.{arrayMax, workMin}
+use Rattle.spec_trees.specs.Limits.{arrayMax, workMin, positionsMin}
 use Rattle.spec_run.specs.declared.answer.Answer.{Answer}
 use Rattle.spec_run.specs.Answer.{numbered, lengthened}
 use Rattle.spec_run.specs.Run.{Outcome}
@@ -22,8 +22,9 @@ pub record ShowsAnswer (a : Answer) (result text : List ℕ) (r : ℕ) : Type 0 
   pub shows : (o : Outcome) → numbered a ≡ o .number → lengthened a ≡ o .length → result ≡ o .result → Begins text (shown o) r
 
 -- ---- the areas in which an input is answered
-pub record RespondReady (s work result text : List ℕ) : Type 0 where
+pub record RespondReady (s work result positions text : List ℕ) : Type 0 where
   pub short : length s ≤ programMax
   pub work-zero : work ≡ replicate workMin 0
   pub zero : result ≡ replicate arrayMax 0
+  pub entries-zero : positions ≡ replicate positionsMin 0
   pub room : 32800 ≤ length text

@@ -6,7 +6,7 @@ use native.Mathlib.Omega.{arith}
 use lib.ListN.{length, take, drop, replicate, length-replicate, length-take}
 use lib.Seq.{length-take-le, take-all}
 use borrow.Author.Tests.{ne-eqb}
-use Rattle.spec_trees.specs.Limits.{arrayMax, workMin}
+use Rattle.spec_trees.specs.Limits.{arrayMax, workMin, positionsMin}
 use Rattle.spec_run.specs.declared.answer.Answer.{Answer}
 use Rattle.spec_run.specs.declared.answer.Answer.the-variants.{Accepted, Refused}
 use Rattle.spec_run.specs.declared.answer.Refusal.{Refusal}
@@ -50,14 +50,14 @@ module _ {a : Answer} {result text : List ℕ} where
   }
 
 -- ---- the areas, and the room for an answer: a result has no more bytes than the result area
--- areas of zero bytes, as the program has them
-pub areas-ready : (s : List ℕ) {r text : List ℕ} → r ≡ take programMax s → 32800 ≤ length text → RespondReady r (replicate workMin 0) (replicate arrayMax 0) text
-areas-ready s e l = record { short = omega (arith, ap length e, length-take programMax s); work-zero = refl; zero = refl; room = l }
+-- areas of zeros, as the program has them
+pub areas-ready : (s : List ℕ) {r text : List ℕ} → r ≡ take programMax s → 32800 ≤ length text → RespondReady r (replicate workMin 0) (replicate arrayMax 0) (replicate positionsMin 0) text
+areas-ready s e l = record { short = omega (arith, ap length e, length-take programMax s); work-zero = refl; zero = refl; entries-zero = refl; room = l }
 
-module _ {s work result text : List ℕ} (h : RespondReady s work result text) where
-  pub answer-ready : {a : Answer} {q i j left w : List ℕ} → Answered (call q i j work result) (numbered a) (lengthened a) left w → ShowReady a left text
+module _ {s work result positions text : List ℕ} (h : RespondReady s work result positions text) where
+  pub answer-ready : {a : Answer} {q i j left w p : List ℕ} → Answered (call q i j work result positions) (numbered a) (lengthened a) left w p → ShowReady a left text
   answer-ready {a} {q} {i} {j} g =
-      let m = run-short (call q i j work result) in
+      let m = run-short (call q i j work result positions) in
       let l : length result ≡ arrayMax = ap length (h .zero) ∙ length-replicate {A = ℕ} arrayMax 0 in
       record {
         within = omega (arith, g .length-is, m .left, ap length (g .result-is));
@@ -68,15 +68,15 @@ module _ {s work result text : List ℕ} (h : RespondReady s work result text) w
   -- ---- the answer to the three pieces is the program's
   module _ {m n : ℕ} (d : m ≡ pieceEnd s 0) (e : n ≡ pieceEnd s m) where
     abbrev pieces : Call
-    pieces = call (take m s) (take (n - m) (drop m s)) (take (length s - n) (drop n s)) work result
+    pieces = call (take m s) (take (n - m) (drop m s)) (take (length s - n) (drop n s)) work result positions
 
     program-is : plainRun pieces ≡ answered (take programMax s)
     unfolding answered
-    program-is = rw (take-all programMax s (h .short), h .zero, h .work-zero, first s d, second s d e, third s d e) refl
+    program-is = rw (take-all programMax s (h .short), h .zero, h .work-zero, h .entries-zero, first s d, second s d e, third s d e) refl
 
-    pub responds : {a : Answer} {left w end : List ℕ} {r : ℕ} → Answered pieces (numbered a) (lengthened a) left w → ShowsAnswer a left end r → Begins end (program s) r
+    pub responds : {a : Answer} {left w p end : List ℕ} {r : ℕ} → Answered pieces (numbered a) (lengthened a) left w p → ShowsAnswer a left end r → Begins end (program s) r
     unfolding program
-    responds {a} {left} {w} {end} {r} g k =
+    responds g k =
         let o = program-is in
         k .shows (answered (take programMax s)) (g .number-is ∙ ap (λ x. x .number) o) (g .length-is ∙ ap (λ x. x .length) o) (g .result-is ∙ ap (λ x. x .result) o)
 

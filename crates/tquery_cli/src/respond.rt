@@ -39,14 +39,27 @@ fn read_part(input: &[u8]) -> &[u8]
 
 /// Answers what is read of an input in these areas: the query and then the input, each as long as its head says or
 /// what is left, then the joined array, all the rest. The text of the answer is written at the start of an area:
-/// where it ends.
-fn respond_in(input: &[u8], work: &mut [u8], result: &mut [u8], text: &mut [u8]) -> usize
-    requires { ⌜ RespondReady (now input) (now work) (now result) (now text) ⌝ }
+/// where it ends. The positions of the result trees are not shown.
+fn respond_in(
+    input: &[u8],
+    work: &mut [u8],
+    result: &mut [u8],
+    positions: &mut [u16],
+    text: &mut [u8],
+) -> usize
+    requires { ⌜ RespondReady (now input) (now work) (now result) (now positions) (now text) ⌝ }
     ensures { λ r. ⌜ Begins (now (text .exit)) (program (now (input .entry))) r ⌝ }
 {
     let m = piece_end(input, 0);
     let n = piece_end(input, m);
-    let answer = run(&input[..m], &input[m..n], &input[n..], work, result);
+    let answer = run(
+        &input[..m],
+        &input[m..n],
+        &input[n..],
+        work,
+        result,
+        positions,
+    );
     write_answer(answer, result, text)
 }
 
@@ -57,5 +70,12 @@ pub fn respond(input: &[u8], text: &mut [u8; 32800]) -> usize
 {
     let mut work = [0u8; Limits::WORK];
     let mut result = [0u8; Limits::ARRAY];
-    respond_in(read_part(input), &mut work, &mut result, text)
+    let mut positions = [0u16; Limits::POSITIONS];
+    respond_in(
+        read_part(input),
+        &mut work,
+        &mut result,
+        &mut positions,
+        text,
+    )
 }

@@ -6,6 +6,7 @@
 //!   PERFORMANCE.md that is there.
 //! - `bench profile KIND SIZE CALLS` only calls the engine, so many times on one case, for a profiler.
 
+mod areas;
 mod cases;
 mod forms;
 mod measure;
@@ -14,6 +15,7 @@ mod page;
 mod paper;
 mod plot;
 
+use areas::Areas;
 use cases::{Case, Kind, KINDS};
 use measure::Measured;
 use std::error::Error;
@@ -23,26 +25,32 @@ use std::process::ExitCode;
 use tquery::Engine;
 
 /// The engine's answer: the length, or the number of the refusal.
-fn engine(c: &Case, work: &mut [u8], result: &mut [u8]) -> Result<usize, u32> {
-    Engine::new(work).run(&c.query, &c.input, &c.joined, result).map_err(|r| r.number())
+fn engine(c: &Case, areas: &mut Areas) -> Result<usize, u32> {
+    let Areas { work, result, positions } = areas;
+    Engine::new(work).run(&c.query, &c.input, &c.joined, result, positions).map_err(|r| r.number())
+}
+
+/// The opponent's answer, likewise.
+fn opponent(c: &Case, areas: &mut Areas) -> Result<usize, u32> {
+    let Areas { work, result, positions } = areas;
+    opponent::run(&c.query, &c.input, &c.joined, work, result, positions)
 }
 
 /// What every run does at least.
-fn floor(c: &Case, work: &mut [u8], result: &mut [u8]) {
-    result[..c.input.len()].copy_from_slice(&c.input);
-    work.fill(0);
+fn floor(c: &Case, areas: &mut Areas) {
+    areas.result[..c.input.len()].copy_from_slice(&c.input);
+    areas.work.fill(0);
 }
 
-type Run = fn(&Case, &mut [u8], &mut [u8]) -> Result<usize, u32>;
-
-/// Whether engine and opponent give the same result. A case that is refused is no case to measure.
+/// Whether engine and opponent give the same result, and leave the same in every area. A case that is refused is
+/// no case to measure.
 fn agree(c: &Case) -> bool {
-    let run = |call: Run| {
-        let (mut work, mut result) = (vec![7; 65536], vec![7; 16384]);
-        (call(c, &mut work, &mut result), work, result)
+    let run = |call: fn(&Case, &mut Areas) -> Result<usize, u32>| {
+        let mut areas = Areas::full_of(7);
+        (call(c, &mut areas), areas)
     };
     let given = run(engine);
-    given.0.is_ok() && given == run(|c, w, r| opponent::run(&c.query, &c.input, &c.joined, w, r))
+    given.0.is_ok() && given == run(opponent)
 }
 
 /// What all cases gave.
@@ -77,9 +85,9 @@ fn profile(kind: &str, size: &str, calls: &str) -> Result<(), Box<dyn Error>> {
     let names = || KINDS.map(|k| k.name).join("; ");
     let kind = KINDS.iter().find(|k| k.name == kind).ok_or_else(|| format!("the kinds are: {}", names()))?;
     let c = (kind.make)(size.parse::<usize>()?.min(kind.most));
-    let (mut work, mut result) = (vec![0; 65536], vec![0; 16384]);
+    let mut areas = Areas::full_of(0);
     for _ in 0..calls.parse::<usize>()? {
-        let _ = black_box(engine(black_box(&c), &mut work, &mut result));
+        let _ = black_box(engine(black_box(&c), &mut areas));
     }
     Ok(())
 }
@@ -103,22 +111,25 @@ fn main() -> ExitCode {
 #[cfg(test)]
 mod tests {
     use super::*;
-    use reference::generate::{Cases, LONGEST_WORK};
+    use reference::generate::{Cases, LONGEST_POSITIONS, LONGEST_WORK};
     use reference::run::Work;
 
-    /// Number, length, and every byte of the result and the work area, on random cases of which many are
-    /// refused.
+    /// Number, length, every byte of the result and the work area and every entry of the position area, on random
+    /// cases of which many are refused.
     #[test]
     fn opponent_answers_as_the_reference() {
         let noise: Vec<u8> = (0..LONGEST_WORK).map(|i| (i * 167 + 13) as u8).collect();
+        let entries: Vec<u16> = (0..LONGEST_POSITIONS).map(|i| (i * 167 + 13) as u16).collect();
         for (i, (c, verdict)) in Cases::new(11).take(5_000).enumerate() {
             let mut work = noise[..c.work_length].to_vec();
             let mut result = noise[..c.result_length].to_vec();
-            let expected = verdict.over(&result);
-            let answer = opponent::run(&c.query, &c.input, &c.joined, &mut work, &mut result);
+            let mut positions = entries[..c.positions_length].to_vec();
+            let expected = verdict.over(&result, &positions);
+            let answer = opponent::run(&c.query, &c.input, &c.joined, &mut work, &mut result, &mut positions);
             let (number, length) = answer.map_or_else(|number| (number, 0), |length| (0, length));
             assert_eq!((number, length), (expected.number.into(), expected.length), "case {i}");
             assert!(result == expected.result, "the result area of case {i}");
+            assert!(positions == expected.positions, "the position area of case {i}");
             let kept = work == noise[..c.work_length];
             let zero = work.iter().all(|byte| *byte == 0);
             assert!(if expected.work == Work::Zero { zero } else { kept }, "the work area of case {i}");

@@ -4,6 +4,7 @@
 //! cases and all three; who begins changes from round to round; ratios are taken within a round, and medians
 //! over the rounds.
 
+use crate::areas::Areas;
 use crate::cases::Case;
 use crate::{engine, floor, opponent};
 use std::hint::black_box;
@@ -21,26 +22,13 @@ type Call = fn(&Case, &mut Areas);
 
 const CALLS: [Call; 3] = [
     |c, areas| {
-        let _ = black_box(engine(c, &mut areas.work, &mut areas.result));
+        let _ = black_box(engine(c, areas));
     },
     |c, areas| {
-        let Areas { work, result } = areas;
-        let _ = black_box(opponent::run(&c.query, &c.input, &c.joined, work, result));
+        let _ = black_box(opponent(c, areas));
     },
-    |c, areas| floor(c, &mut areas.work, &mut areas.result),
+    floor,
 ];
-
-/// The areas that a call writes.
-struct Areas {
-    work: Vec<u8>,
-    result: Vec<u8>,
-}
-
-impl Areas {
-    fn new() -> Areas {
-        Areas { work: vec![0; 65536], result: vec![0; 16384] }
-    }
-}
 
 /// The time of so many calls, after one that is not timed.
 fn time(call: Call, c: &Case, areas: &mut Areas, calls: u32) -> Duration {
@@ -129,7 +117,7 @@ fn measured(timed: &Timed, before: &Timed) -> Measured {
 
 /// Measures kinds of cases, each from small to large: what each case gave, and in how many rounds.
 pub fn measure(kinds: &[Vec<Case>]) -> (Vec<Vec<Measured>>, usize) {
-    let mut areas = [(); 3].map(|()| Areas::new());
+    let mut areas = [(); 3].map(|()| Areas::full_of(0));
     let mut timed: Vec<Vec<Timed>> =
         kinds.iter().map(|cases| cases.iter().map(|c| Timed::new(c, &mut areas)).collect()).collect();
     let from = Instant::now();

@@ -84,14 +84,15 @@ pub fn pipeline(n: usize) -> Case {
 #[cfg(test)]
 mod tests {
     use super::*;
+    use crate::areas::Areas;
     use tquery::{Array, Engine};
 
     /// What the first so many stages give of one record, in document 01's notation.
     fn after(stages_done: usize) -> String {
         let c = pipeline(record(DAYS.len()).len() + 3);
         let query = query(&stages()[..stages_done]);
-        let (mut work, mut result) = (vec![0; 65536], vec![0; 16384]);
-        let length = Engine::new(&mut work).run(&query, &c.input, &c.joined, &mut result);
+        let Areas { mut work, mut result, mut positions } = Areas::full_of(0);
+        let length = Engine::new(&mut work).run(&query, &c.input, &c.joined, &mut result, &mut positions);
         let array = length.map(|n| Array::decode(&result[..n]).map(|array| array.to_string()));
         array.expect("the run is accepted").expect("the result is an array")
     }

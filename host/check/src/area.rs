@@ -1,44 +1,45 @@
 //! An area that is lent to the engine, with guard bytes around it.
 
-/// How many guard bytes stand before and behind an area.
+/// How many guard entries stand before and behind an area.
 const GUARD: usize = 64;
 
-/// What a guard byte is at a place: no one value, so that a guard overwritten
+/// What a guard entry is at a place: no one value, so that a guard overwritten
 /// with any one value is seen.
-fn guard(place: usize) -> u8 {
-    (place as u8).wrapping_mul(37) ^ 0x5A
+fn guard<T: From<u8>>(place: usize) -> T {
+    T::from((place as u8).wrapping_mul(37) ^ 0x5A)
 }
 
-/// An area inside a longer buffer.
-pub struct Area {
-    buffer: Vec<u8>,
+/// An area inside a longer buffer: of bytes, or of the numbers of 16 bits that
+/// positions are.
+pub struct Area<T> {
+    buffer: Vec<T>,
     begin: usize,
     length: usize,
 }
 
-impl Area {
+impl<T: Copy + From<u8> + PartialEq> Area<T> {
     /// A buffer for areas of up to a length.
-    pub fn new(longest: usize) -> Area {
-        Area { buffer: vec![0; longest + 3 * GUARD], begin: GUARD, length: 0 }
+    pub fn new(longest: usize) -> Area<T> {
+        Area { buffer: vec![T::from(0); longest + 3 * GUARD], begin: GUARD, length: 0 }
     }
 
-    /// Lays bytes into the area and sets its guards. The area is moved within
-    /// its buffer by less than a guard, so that it has every alignment.
-    pub fn lay(&mut self, bytes: &[u8], shift: usize) {
+    /// Lays a content into the area and sets its guards. The area is moved
+    /// within its buffer by less than a guard, so that it has every alignment.
+    pub fn lay(&mut self, content: &[T], shift: usize) {
         self.begin = GUARD + shift % GUARD;
-        self.length = bytes.len();
+        self.length = content.len();
         let (begin, end) = (self.begin, self.begin + self.length);
-        self.buffer[begin..end].copy_from_slice(bytes);
+        self.buffer[begin..end].copy_from_slice(content);
         for place in (begin - GUARD..begin).chain(end..end + GUARD) {
             self.buffer[place] = guard(place);
         }
     }
 
-    pub fn bytes(&self) -> &[u8] {
+    pub fn content(&self) -> &[T] {
         &self.buffer[self.begin..self.begin + self.length]
     }
 
-    pub fn bytes_mut(&mut self) -> &mut [u8] {
+    pub fn content_mut(&mut self) -> &mut [T] {
         &mut self.buffer[self.begin..self.begin + self.length]
     }
 
@@ -55,7 +56,7 @@ mod tests {
 
     #[test]
     fn a_changed_guard_is_seen_on_both_sides() {
-        let mut area = Area::new(10);
+        let mut area = Area::<u8>::new(10);
         for (length, shift) in [(0, 0), (10, 63), (3, 7)] {
             area.lay(&vec![1; length], shift);
             assert!(area.guarded());
@@ -71,10 +72,10 @@ mod tests {
 
     #[test]
     fn writing_an_area_leaves_its_guards() {
-        let mut area = Area::new(10);
-        area.lay(&[1; 10], 5);
-        area.bytes_mut().fill(0);
+        let mut area = Area::<u16>::new(10);
+        area.lay(&[1_000; 10], 5);
+        area.content_mut().fill(0);
         assert!(area.guarded());
-        assert_eq!(area.bytes(), [0; 10]);
+        assert_eq!(area.content(), [0; 10]);
     }
 }

@@ -13,6 +13,8 @@ mod c {
             work_length: usize,
             result: *mut u8,
             result_length: usize,
+            positions: *mut u16,
+            positions_length: usize,
         ) -> u64;
         pub fn tquery_regroup(
             query: *const u8,
@@ -31,6 +33,13 @@ mod c {
     }
 }
 
+/// The areas that a call writes.
+pub struct Written<'a> {
+    pub work: &'a mut [u8],
+    pub result: &'a mut [u8],
+    pub positions: &'a mut [u16],
+}
+
 /// An answer taken apart: the number of the table, and the result's length.
 #[derive(Clone, Copy, Debug, PartialEq, Eq)]
 pub struct Answer {
@@ -44,7 +53,8 @@ impl From<u64> for Answer {
     }
 }
 
-/// A call that writes: both take a query, two arrays, a work and a result area.
+/// A call that writes: both take a query, two arrays, a work and a result area,
+/// and a run a position area.
 #[derive(Clone, Copy, Debug, PartialEq, Eq)]
 pub enum Call {
     Run,
@@ -60,29 +70,51 @@ impl Call {
         }
     }
 
-    pub fn make(self, read: [&[u8]; 3], work: &mut [u8], result: &mut [u8]) -> Answer {
-        let call = match self {
-            Call::Run => c::tquery_run,
-            Call::Regroup => c::tquery_regroup,
-        };
-        let [query, one, other] = read;
-        // SAFETY: slices are never null and as long as they say; the two that are
-        // written are borrowed alone, so they overlap no other.
-        let answer = unsafe {
-            call(
-                query.as_ptr(),
-                query.len(),
-                one.as_ptr(),
-                one.len(),
-                other.as_ptr(),
-                other.len(),
-                work.as_mut_ptr(),
-                work.len(),
-                result.as_mut_ptr(),
-                result.len(),
-            )
-        };
-        answer.into()
+    pub fn make(self, read: [&[u8]; 3], written: Written) -> Answer {
+        match self {
+            Call::Run => run(read, written),
+            Call::Regroup => regroup(read, written),
+        }
+        .into()
+    }
+}
+
+fn run([query, input, joined]: [&[u8]; 3], Written { work, result, positions }: Written) -> u64 {
+    // SAFETY: slices are never null, aligned, and as long as they say; those that
+    // are written are borrowed alone, so they overlap no other.
+    unsafe {
+        c::tquery_run(
+            query.as_ptr(),
+            query.len(),
+            input.as_ptr(),
+            input.len(),
+            joined.as_ptr(),
+            joined.len(),
+            work.as_mut_ptr(),
+            work.len(),
+            result.as_mut_ptr(),
+            result.len(),
+            positions.as_mut_ptr(),
+            positions.len(),
+        )
+    }
+}
+
+fn regroup([query, first, second]: [&[u8]; 3], Written { work, result, .. }: Written) -> u64 {
+    // SAFETY: as for a run.
+    unsafe {
+        c::tquery_regroup(
+            query.as_ptr(),
+            query.len(),
+            first.as_ptr(),
+            first.len(),
+            second.as_ptr(),
+            second.len(),
+            work.as_mut_ptr(),
+            work.len(),
+            result.as_mut_ptr(),
+            result.len(),
+        )
     }
 }
 

@@ -1,9 +1,9 @@
 //! `check [N] [SEED]`: the engine beside the reference on N random cases.
 //!
 //! Two of three are runs, and the third a regrouping. Compared are the number,
-//! the length, every byte of the result area, the work area, the three areas
-//! that are only read, guard bytes around all five, and the two calls that only
-//! check. Ends with a table of how many cases of each number agreed, or with
+//! the length, every byte of the result area, every entry of the position area,
+//! the work area, the three areas that are only read, guards around all six,
+//! and the two calls that only check. Ends with a table of how many cases of each number agreed, or with
 //! status 1 and the first case that differs.
 
 mod area;
@@ -39,7 +39,7 @@ fn seed_of_now() -> u64 {
 }
 
 /// The numbers of the table, 0 among them.
-const NUMBERS: usize = 11;
+const NUMBERS: usize = 12;
 
 /// How many cases of each number have agreed, by call, and since when.
 struct Progress {
@@ -109,9 +109,10 @@ fn print_trial(trial: &Trial, difference: &str, result: &[u8]) {
     for (name, bytes) in trial.call.names().iter().zip(&trial.read) {
         println!("{name} {}", hexadecimal(bytes));
     }
-    println!("work length {}, result length {}", trial.work_length, trial.result_length);
-    let verdict = &trial.verdict;
+    let Trial { work_length, result_length, positions_length, verdict, .. } = trial;
+    println!("work length {work_length}, result length {result_length}, entries {positions_length}");
     println!("by the reference: number {}, result {}", verdict.number(), hexadecimal(verdict.bytes()));
+    println!("positions {:?}", verdict.positions());
     println!("the engine's result area {}", hexadecimal(result));
 }
 

@@ -10,20 +10,24 @@ pub struct Trial {
     pub read: [Vec<u8>; 3],
     pub work_length: usize,
     pub result_length: usize,
+    /// In entries; 0 for a regrouping, which takes no position area.
+    pub positions_length: usize,
     pub verdict: Verdict,
 }
 
 impl From<(Case, Verdict)> for Trial {
     fn from((case, verdict): (Case, Verdict)) -> Trial {
-        let Case { query, input, joined, work_length, result_length } = case;
-        Trial { call: Call::Run, read: [query, input, joined], work_length, result_length, verdict }
+        let Case { query, input, joined, work_length, result_length, positions_length } = case;
+        let (call, read) = (Call::Run, [query, input, joined]);
+        Trial { call, read, work_length, result_length, positions_length, verdict }
     }
 }
 
 impl From<(RegroupCase, Verdict)> for Trial {
     fn from((case, verdict): (RegroupCase, Verdict)) -> Trial {
         let RegroupCase { query, first, second, work_length, result_length } = case;
-        Trial { call: Call::Regroup, read: [query, first, second], work_length, result_length, verdict }
+        let (call, read) = (Call::Regroup, [query, first, second]);
+        Trial { call, read, work_length, result_length, positions_length: 0, verdict }
     }
 }
 

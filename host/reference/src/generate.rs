@@ -15,7 +15,7 @@ use crate::bytes::{
     encode_array, encode_query, AGGREGATES_LIMIT, GROUPING_LIMIT, ITEMS_LIMIT, LIST_LIMIT, NESTING_LIMIT,
     QUERY_LIMIT, STAGES_LIMIT,
 };
-use crate::run::{decide, Verdict, WORK_LEAST};
+use crate::run::{decide, Lengths, Verdict, POSITIONS_LEAST, WORK_LEAST};
 use crate::stages::{Criterion, Data, Item, Pair, Stage};
 use crate::tree::{array_size, Tree, ARRAY_LIMIT, DEPTH_LIMIT, HEAD, TEXT_LIMIT, TREE_LIMIT};
 pub use day::{day, Day};
@@ -29,10 +29,14 @@ pub const LONGEST: usize = 20_000;
 /// The longest work area of a case.
 pub const LONGEST_WORK: usize = 70_000;
 
+/// The longest position area of a case, in entries.
+pub const LONGEST_POSITIONS: usize = 20_000;
+
 /// A case is left out if a list passes this number of trees on its way.
 const MOST_TREES: usize = 5_000;
 
-/// What a run is given; of the work and result areas their lengths.
+/// What a run is given; of the areas that it writes their lengths, in bytes
+/// and of the position area in entries.
 #[derive(Clone, Debug, PartialEq, Eq)]
 pub struct Case {
     pub query: Vec<u8>,
@@ -40,12 +44,17 @@ pub struct Case {
     pub joined: Vec<u8>,
     pub work_length: usize,
     pub result_length: usize,
+    pub positions_length: usize,
 }
 
 impl Case {
+    pub fn lengths(&self) -> Lengths {
+        Lengths { work: self.work_length, result: self.result_length, positions: self.positions_length }
+    }
+
     /// What the plain run answers, if its lists stay short.
     fn verdict(&self) -> Option<Verdict> {
-        decide(&self.query, &self.input, &self.joined, self.work_length, self.result_length, MOST_TREES)
+        decide(&self.query, &self.input, &self.joined, self.lengths(), MOST_TREES)
     }
 }
 
@@ -80,8 +89,8 @@ impl Draft {
         }
         let query = encode_query(&self.stages)?;
         let (input, joined) = (encode_array(&self.input)?, encode_array(&self.joined)?);
-        let case = Case { query, input, joined, work_length: WORK_LEAST, result_length: ARRAY_LIMIT };
-        case.within_longest()
+        let (work_length, result_length, positions_length) = (WORK_LEAST, ARRAY_LIMIT, POSITIONS_LEAST);
+        Case { query, input, joined, work_length, result_length, positions_length }.within_longest()
     }
 }
 
@@ -113,14 +122,16 @@ impl Iterator for Cases {
 type Kind<C> = fn(&mut Random) -> Option<C>;
 
 /// The kinds of cases, and how often each is drawn, in thousand.
-const KINDS: [(usize, Kind<Case>); 18] = [
-    (300, |random| ordinary(random).case()),
+const KINDS: [(usize, Kind<Case>); 21] = [
+    (270, |random| ordinary(random).case()),
     (90, |random| groups(random).case()),
+    (40, |random| groups_of_groups(random).case()),
     (70, |random| lookups(random).case()),
     (50, |random| long_paths(random).case()),
     (40, |random| nestings(random).case()),
     (30, |random| counts(random).case()),
-    (40, |random| array_limits(random).case()),
+    (30, |random| array_limits(random).case()),
+    (10, |random| bare_trees(random).case()),
     (40, |random| tree_limits(random).case()),
     (35, |random| query_limits(random)),
     (65, |random| tree_growth(random).case()),
@@ -132,6 +143,7 @@ const KINDS: [(usize, Kind<Case>); 18] = [
     (15, |random| random_bytes(random)),
     (20, |random| several_faults(random)),
     (20, |random| short_work(random)),
+    (20, |random| short_positions(random)),
 ];
 
 /// A case of one of the kinds, each drawn as often as its weight says.
@@ -151,6 +163,9 @@ fn of_kinds<C: Lent>(random: &mut Random, kinds: &[(usize, Kind<C>)]) -> Option<
 fn in_areas(random: &mut Random, mut case: Case) -> Option<(Case, Verdict)> {
     if case.work_length >= WORK_LEAST && random.chance(30) {
         case.work_length = random.between(WORK_LEAST, LONGEST_WORK);
+    }
+    if case.positions_length >= POSITIONS_LEAST && random.chance(30) {
+        case.positions_length = random.pick(&[POSITIONS_LEAST + 1, 3_000, 4_001, LONGEST_POSITIONS]);
     }
     if random.chance(12) {
         case.result_length =
@@ -211,6 +226,24 @@ fn groups(random: &mut Random) -> Draft {
     let number = random.pick(&[0, 1, 1, 2, 3]);
     let aggregates = draw::pairs(random, &input, number);
     let mut stages = vec![Stage::Group { aggregates, grouping }];
+    around(random, &mut stages, &input);
+    Draft { stages, joined: related(random, &input), input }
+}
+
+/// A group behind a group, by fewer of the pairs: so a class of the second has
+/// members of several subsets, and the first of them need not be the one that
+/// bears the smallest position.
+fn groups_of_groups(random: &mut Random) -> Draft {
+    let input: Vec<Tree> = (0..random.between(2, 24)).map(|_| record(random, 3)).collect();
+    let same = |label: u8| Pair { source: vec![label], destination: vec![label] };
+    let by = |labels: &[u8]| Stage::Group {
+        aggregates: vec![same(3)],
+        grouping: labels.iter().map(|label| same(*label)).collect(),
+    };
+    let mut stages = vec![by(random.pick(&[&[1, 2][..], &[2, 1], &[1, 2, 4]])), by(&[random.pick(&[1, 2])])];
+    if random.chance(20) {
+        stages.insert(1, Stage::Unwind(vec![3]));
+    }
     around(random, &mut stages, &input);
     Draft { stages, joined: related(random, &input), input }
 }
@@ -357,6 +390,21 @@ fn array_limits(random: &mut Random) -> Draft {
         draft.joined = draw::filled(random, draft.joined, size);
     }
     draft
+}
+
+/// Nearly as many trees as an array holds, or as many, through stages that keep
+/// them, put them together, or take some of them out.
+fn bare_trees(random: &mut Random) -> Draft {
+    let mut input = vec![Tree::void(); POSITIONS_LEAST - random.pick(&[0, 0, 0, 1, 2, 20])];
+    let kept = Stage::Match(Criterion::Equal(vec![], vec![Tree::void()]));
+    let group = Stage::Group { aggregates: vec![], grouping: vec![] };
+    let bare = Stage::Project(vec![Item::Keep(vec![9])]);
+    let stages = random.pick(&[vec![], vec![kept.clone()], vec![bare, kept.clone()], vec![kept, group]]);
+    if random.chance(50) {
+        input.pop();
+        input.insert(random.below(input.len()), Tree::text(b"a"));
+    }
+    Draft { stages, input, joined: vec![] }
 }
 
 /// A tree at a limit or past it: its size, its depth, its text.
@@ -623,6 +671,9 @@ fn several_faults(random: &mut Random) -> Option<Case> {
     if random.chance(15) {
         case.work_length = short_length(random);
     }
+    if random.chance(20) {
+        case.positions_length = few_entries(random);
+    }
     case.result_length = random.pick(&[0, 10, ARRAY_LIMIT]);
     Some(case)
 }
@@ -647,6 +698,25 @@ fn short_length(random: &mut Random) -> usize {
     random.pick(&[0, 1, 100, WORK_LEAST / 2, WORK_LEAST - 2, WORK_LEAST - 1, WORK_LEAST - 1])
 }
 
+/// A position area that is too short.
+fn short_positions(random: &mut Random) -> Option<Case> {
+    let mut case = if random.chance(50) { sound(random)? } else { field_damage(random)? };
+    case.positions_length = few_entries(random);
+    Some(case)
+}
+
+fn few_entries(random: &mut Random) -> usize {
+    random.pick(&[
+        0,
+        1,
+        100,
+        POSITIONS_LEAST / 2,
+        POSITIONS_LEAST - 2,
+        POSITIONS_LEAST - 1,
+        POSITIONS_LEAST - 1,
+    ])
+}
+
 #[cfg(test)]
 mod tests {
     use super::*;
@@ -661,7 +731,7 @@ mod tests {
 
     #[test]
     fn most_are_accepted_and_every_number_appears() {
-        let mut numbers = [0; 11];
+        let mut numbers = [0; 12];
         Cases::new(1).take(4_000).for_each(|(_, verdict)| numbers[usize::from(verdict.number())] += 1);
         assert!(numbers[0] > 2_000, "{numbers:?}");
         assert!(numbers.iter().all(|number| *number >= 40), "{numbers:?}");
@@ -696,10 +766,26 @@ mod tests {
     #[test]
     fn an_accepted_run_over_its_own_result_is_admitted() {
         for (case, verdict) in Cases::new(4).take(1_000) {
-            if let Verdict::Accepted(bytes) = verdict {
-                let again = decide(&case.query, &bytes, &case.joined, WORK_LEAST, ARRAY_LIMIT, MOST_TREES);
-                assert!(!matches!(again, Some(Verdict::Refused(1..=7))));
+            if let Verdict::Accepted { bytes, .. } = verdict {
+                let again = decide(&case.query, &bytes, &case.joined, case.lengths(), MOST_TREES);
+                assert!(!matches!(again, Some(Verdict::Refused(1..=7 | 11))));
             }
         }
+    }
+
+    #[test]
+    fn positions_are_those_of_input_trees_and_at_times_fall() {
+        let (mut falling, mut repeated) = (0, 0);
+        for (case, verdict) in Cases::new(5).take(2_000) {
+            if let Verdict::Accepted { bytes, positions } = verdict {
+                let trees = |bytes: &[u8]| decode_array(bytes).unwrap().len();
+                assert_eq!(positions.len(), trees(&bytes));
+                let inputs = 1..=trees(&case.input);
+                assert!(positions.iter().all(|position| inputs.contains(&usize::from(*position))));
+                falling += usize::from(positions.windows(2).any(|two| two[0] > two[1]));
+                repeated += usize::from(positions.windows(2).any(|two| two[0] == two[1]));
+            }
+        }
+        assert!(falling > 20 && repeated > 20, "{falling} fall, {repeated} are repeated");
     }
 }

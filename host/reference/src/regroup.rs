@@ -38,11 +38,11 @@ pub fn plain_regroup(
     work_length: usize,
     result_area: &[u8],
 ) -> Outcome {
-    decide_regroup(query, first, second, work_length, result_area.len()).over(result_area)
+    decide_regroup(query, first, second, work_length, result_area.len()).over(result_area, &[])
 }
 
 /// What that call answers. A group makes no more trees than it is given, so
-/// no case needs to be left out.
+/// no case needs to be left out. It takes no position area.
 pub fn decide_regroup(
     query: &[u8],
     first: &[u8],
@@ -52,9 +52,9 @@ pub fn decide_regroup(
 ) -> Verdict {
     let answer = admitted(query, first, second, work_length)
         .and_then(|(group, joined)| after_stages(&[group], joined, &[], usize::MAX))
-        .and_then(|trees| written(&trees, result_length));
+        .and_then(|list| written(&list, result_length));
     match answer {
-        Ok(bytes) => Verdict::Accepted(bytes),
+        Ok(bytes) => Verdict::Accepted { bytes, positions: vec![] },
         Err(Stop::Refused(number)) => Verdict::Refused(number),
         Err(Stop::TooLong) => unreachable!("a list has no limit of its own"),
     }
@@ -116,7 +116,7 @@ mod tests {
     }
 
     fn accepted(trees: &[Tree]) -> Verdict {
-        Verdict::Accepted(array(trees))
+        Verdict::Accepted { bytes: array(trees), positions: vec![] }
     }
 
     #[test]

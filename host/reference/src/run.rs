@@ -2,11 +2,23 @@
 //! one whole list.
 
 use crate::bytes::{decode_array, decode_query, encode_array, QUERY_LIMIT};
-use crate::stages::{staged, Stage};
+use crate::positions::{carried, numbered, Borne};
+use crate::stages::Stage;
 use crate::tree::{array_size, Tree, ARRAY_LIMIT};
 
 /// The least work area, in bytes.
 pub const WORK_LEAST: usize = 65_536;
+
+/// The least position area, in entries.
+pub const POSITIONS_LEAST: usize = 2_730;
+
+/// The lengths of the areas that a run writes: in bytes, the position area's in entries.
+#[derive(Clone, Copy, Debug, PartialEq, Eq)]
+pub struct Lengths {
+    pub work: usize,
+    pub result: usize,
+    pub positions: usize,
+}
 
 /// What the work area holds after a run.
 #[derive(Clone, Copy, Debug, PartialEq, Eq)]
@@ -22,6 +34,8 @@ pub struct Outcome {
     pub length: usize,
     /// The whole result area afterwards.
     pub result: Vec<u8>,
+    /// The whole position area afterwards.
+    pub positions: Vec<u16>,
     pub work: Work,
 }
 
@@ -29,7 +43,12 @@ pub struct Outcome {
 /// the lengths of the areas alone, and not from what they hold.
 #[derive(Clone, Debug, PartialEq, Eq)]
 pub enum Verdict {
-    Accepted(Vec<u8>),
+    /// The bytes of the result, and a position for each of its trees; of a
+    /// call that takes no position area, none.
+    Accepted {
+        bytes: Vec<u8>,
+        positions: Vec<u16>,
+    },
     Refused(u8),
 }
 
@@ -37,7 +56,7 @@ impl Verdict {
     /// The number of the table.
     pub fn number(&self) -> u8 {
         match self {
-            Verdict::Accepted(_) => 0,
+            Verdict::Accepted { .. } => 0,
             Verdict::Refused(number) => *number,
         }
     }
@@ -45,22 +64,32 @@ impl Verdict {
     /// The bytes of the result; none after a refusal.
     pub fn bytes(&self) -> &[u8] {
         match self {
-            Verdict::Accepted(bytes) => bytes,
+            Verdict::Accepted { bytes, .. } => bytes,
             Verdict::Refused(_) => &[],
         }
     }
 
-    /// The outcome over a result area: 1 to 7 leave it, 8 to 10 clear it, and
-    /// acceptance writes at its start.
-    pub fn over(&self, result_area: &[u8]) -> Outcome {
-        let mut result = result_area.to_vec();
+    /// The positions of the result's trees; none after a refusal.
+    pub fn positions(&self) -> &[u16] {
         match self {
-            Verdict::Accepted(bytes) => result[..bytes.len()].copy_from_slice(bytes),
-            Verdict::Refused(8..) => result.fill(0),
-            Verdict::Refused(_) => {}
+            Verdict::Accepted { positions, .. } => positions,
+            Verdict::Refused(_) => &[],
         }
-        let work = if self.number() == 1 { Work::Kept } else { Work::Zero };
-        Outcome { number: self.number(), length: self.bytes().len(), result, work }
+    }
+
+    /// The outcome over a result area and a position area: 1 to 7 and 11 leave
+    /// both, 8 to 10 clear both, and acceptance writes at their start. 1 and
+    /// 11 leave the work area too.
+    pub fn over(&self, result_area: &[u8], position_area: &[u16]) -> Outcome {
+        let (mut result, mut positions) = (result_area.to_vec(), position_area.to_vec());
+        if let Verdict::Refused(8..=10) = self {
+            result.fill(0);
+            positions.fill(0);
+        }
+        result[..self.bytes().len()].copy_from_slice(self.bytes());
+        positions[..self.positions().len()].copy_from_slice(self.positions());
+        let work = if let Verdict::Refused(1 | 11) = self { Work::Kept } else { Work::Zero };
+        Outcome { number: self.number(), length: self.bytes().len(), result, positions, work }
     }
 }
 
@@ -79,9 +108,11 @@ pub fn plain_run(
     joined: &[u8],
     work_length: usize,
     result_area: &[u8],
+    position_area: &[u16],
 ) -> Outcome {
-    let verdict = decide(query, input, joined, work_length, result_area.len(), usize::MAX);
-    verdict.expect("a list has no limit of its own").over(result_area)
+    let lengths = Lengths { work: work_length, result: result_area.len(), positions: position_area.len() };
+    let verdict = decide(query, input, joined, lengths, usize::MAX);
+    verdict.expect("a list has no limit of its own").over(result_area, position_area)
 }
 
 /// What the plain run answers, or nothing if a list would pass a number of
@@ -94,15 +125,14 @@ pub fn decide(
     query: &[u8],
     input: &[u8],
     joined: &[u8],
-    work_length: usize,
-    result_length: usize,
+    lengths: Lengths,
     most_trees: usize,
 ) -> Option<Verdict> {
-    let answer = admitted(query, input, joined, work_length)
+    let answer = admitted(query, input, joined, lengths)
         .and_then(|run| after_stages(&run.stages, run.input, &run.joined, most_trees))
-        .and_then(|trees| written(&trees, result_length));
+        .and_then(|list| Ok((written(&list, lengths.result)?, positions_of(&list))));
     match answer {
-        Ok(bytes) => Some(Verdict::Accepted(bytes)),
+        Ok((bytes, positions)) => Some(Verdict::Accepted { bytes, positions }),
         Err(Stop::Refused(number)) => Some(Verdict::Refused(number)),
         Err(Stop::TooLong) => None,
     }
@@ -115,9 +145,10 @@ struct Admitted {
     joined: Vec<Tree>,
 }
 
-/// Tests 1 to 7: what the bytes say, or the first refusal.
-fn admitted(query: &[u8], input: &[u8], joined: &[u8], work_length: usize) -> Result<Admitted, Stop> {
-    refuse(1, work_length < WORK_LEAST)?;
+/// Tests 1, 11 and 2 to 7: what the bytes say, or the first refusal.
+fn admitted(query: &[u8], input: &[u8], joined: &[u8], lengths: Lengths) -> Result<Admitted, Stop> {
+    refuse(1, lengths.work < WORK_LEAST)?;
+    refuse(11, lengths.positions < POSITIONS_LEAST)?;
     let stages = query_within(query)?;
     let input = array_within(input, 4, 5)?;
     let joined = array_within(joined, 6, 7)?;
@@ -150,26 +181,37 @@ pub(crate) fn after_stages(
     input: Vec<Tree>,
     joined: &[Tree],
     most_trees: usize,
-) -> Result<Vec<Tree>, Stop> {
-    let mut trees = input;
+) -> Result<Vec<Borne>, Stop> {
+    let mut list = numbered(input);
     for stage in stages {
         let groups = matches!(stage, Stage::Group { .. });
-        refuse(9, groups && array_size(&trees) > ARRAY_LIMIT)?;
-        trees = staged(stage, &trees, joined).map_err(|_| Stop::Refused(8))?;
-        if trees.len() > most_trees {
+        refuse(9, groups && array_size(trees_of(&list)) > ARRAY_LIMIT)?;
+        list = carried(stage, &list, joined).map_err(|_| Stop::Refused(8))?;
+        if list.len() > most_trees {
             return Err(Stop::TooLong);
         }
     }
-    Ok(trees)
+    Ok(list)
+}
+
+fn trees_of(list: &[Borne]) -> impl Iterator<Item = &Tree> {
+    list.iter().map(|borne| &borne.tree)
 }
 
 /// The end of a run: the bytes, if they are within the limit and the area.
-pub(crate) fn written(trees: &[Tree], result_length: usize) -> Result<Vec<u8>, Stop> {
-    let size = array_size(trees);
+pub(crate) fn written(list: &[Borne], result_length: usize) -> Result<Vec<u8>, Stop> {
+    let size = array_size(trees_of(list));
     refuse(10, size > ARRAY_LIMIT || size > result_length)?;
-    let bytes = encode_array(trees).expect("an array within the limit has a byte form");
+    let trees: Vec<Tree> = trees_of(list).cloned().collect();
+    let bytes = encode_array(&trees).expect("an array within the limit has a byte form");
     assert_eq!(bytes.len(), size, "a size is the length of the byte form");
     Ok(bytes)
+}
+
+/// The positions as the numbers of 16 bits that they are written as.
+fn positions_of(list: &[Borne]) -> Vec<u16> {
+    let position = |borne: &Borne| u16::try_from(borne.position);
+    list.iter().map(position).collect::<Result<_, _>>().expect("an input has at most 2,730 trees")
 }
 
 /// What a call that only checks an array answers: 0, 4 or 5.
@@ -219,8 +261,11 @@ mod tests {
         trees
     }
 
+    /// A position area of the least length.
+    const ENTRIES: [u16; POSITIONS_LEAST] = [43_690; POSITIONS_LEAST];
+
     fn number(query: &[u8], input: &[u8], joined: &[u8]) -> u8 {
-        plain_run(query, input, joined, WORK_LEAST, &[187; ARRAY_LIMIT]).number
+        plain_run(query, input, joined, WORK_LEAST, &[187; ARRAY_LIMIT], &ENTRIES).number
     }
 
     fn empty_group() -> Stage {
@@ -229,31 +274,53 @@ mod tests {
 
     #[test]
     fn the_programs_example() {
-        let outcome = plain_run(&NO_STAGE, &EMPTY, &EMPTY, WORK_LEAST, &[9; 5]);
-        assert_eq!(outcome, Outcome { number: 0, length: 3, result: vec![1, 0, 0, 9, 9], work: Work::Zero });
+        let outcome = plain_run(&NO_STAGE, &EMPTY, &EMPTY, WORK_LEAST, &[9; 5], &ENTRIES);
+        let (result, positions) = (vec![1, 0, 0, 9, 9], ENTRIES.to_vec());
+        assert_eq!(outcome, Outcome { number: 0, length: 3, result, positions, work: Work::Zero });
     }
 
     #[test]
     fn refusals_in_their_order() {
         let (long_query, bad, long) = (vec![0; 4_097], vec![1], vec![0; 16_385]);
-        let run = |query: &[u8], input: &[u8], joined: &[u8], work| {
-            let outcome = plain_run(query, input, joined, work, &[3; 4]);
+        let run = |query: &[u8], input: &[u8], joined: &[u8], work, entries: usize| {
+            let entries = vec![5; entries];
+            let outcome = plain_run(query, input, joined, work, &[3; 4], &entries);
             assert_eq!((outcome.length, outcome.result), (0, vec![3; 4]));
+            assert_eq!(outcome.positions, entries);
             outcome.number
         };
-        assert_eq!(run(&long_query, &long, &long, 65_535), 1);
-        assert_eq!(run(&long_query, &long, &long, 65_536), 2);
-        assert_eq!(run(&bad, &long, &long, 65_536), 3);
-        assert_eq!(run(&NO_STAGE, &long, &long, 65_536), 4);
-        assert_eq!(run(&NO_STAGE, &bad, &long, 65_536), 5);
-        assert_eq!(run(&NO_STAGE, &EMPTY, &long, 65_536), 6);
-        assert_eq!(run(&NO_STAGE, &EMPTY, &bad, 65_536), 7);
+        assert_eq!(run(&long_query, &long, &long, 65_535, 2_729), 1);
+        assert_eq!(run(&long_query, &long, &long, 65_536, 2_729), 11);
+        assert_eq!(run(&long_query, &long, &long, 65_536, 2_730), 2);
+        assert_eq!(run(&bad, &long, &long, 65_536, 2_730), 3);
+        assert_eq!(run(&NO_STAGE, &long, &long, 65_536, 2_730), 4);
+        assert_eq!(run(&NO_STAGE, &bad, &long, 65_536, 2_730), 5);
+        assert_eq!(run(&NO_STAGE, &EMPTY, &long, 65_536, 2_730), 6);
+        assert_eq!(run(&NO_STAGE, &EMPTY, &bad, 65_536, 2_730), 7);
     }
 
     #[test]
-    fn only_refusal_1_keeps_the_work_area() {
-        assert_eq!(plain_run(&[], &[], &[], 0, &[]).work, Work::Kept);
-        assert_eq!(plain_run(&[], &[], &[], WORK_LEAST, &[]).work, Work::Zero);
+    fn only_refusals_1_and_11_keep_the_work_area() {
+        assert_eq!(plain_run(&[], &[], &[], 0, &[], &ENTRIES).work, Work::Kept);
+        assert_eq!(plain_run(&[], &[], &[], WORK_LEAST, &[], &[]).work, Work::Kept);
+        assert_eq!(plain_run(&[], &[], &[], WORK_LEAST, &[], &ENTRIES).work, Work::Zero);
+    }
+
+    #[test]
+    fn each_result_tree_has_an_entry_and_later_ones_are_kept() {
+        let input = array(&[Tree::integer(4), Tree::void().with(1, vec![Tree::void(); 2])]);
+        let unwind = query(&[Stage::Unwind(vec![1])]);
+        let outcome = plain_run(&unwind, &input, &EMPTY, WORK_LEAST, &[187; ARRAY_LIMIT], &ENTRIES);
+        assert_eq!(outcome.positions[..2], [2, 2]);
+        assert_eq!(outcome.positions[2..], ENTRIES[2..]);
+    }
+
+    #[test]
+    fn as_many_trees_as_an_array_holds_have_their_entries() {
+        let input = array(&vec![Tree::void(); POSITIONS_LEAST]);
+        let outcome = plain_run(&NO_STAGE, &input, &EMPTY, WORK_LEAST, &[187; ARRAY_LIMIT], &ENTRIES);
+        assert_eq!(outcome.positions, (1..=2_730).collect::<Vec<u16>>());
+        assert_eq!(number(&NO_STAGE, &array(&vec![Tree::void(); POSITIONS_LEAST + 1]), &EMPTY), 4);
     }
 
     #[test]
@@ -281,7 +348,7 @@ mod tests {
         let none = Stage::Match(Criterion::Not(Box::new(Criterion::True)));
         let outcome = |last: &[Stage]| {
             let stages = [&[one.clone(), two.clone()], last].concat();
-            plain_run(&query(&stages), &input, &EMPTY, WORK_LEAST, &[187; ARRAY_LIMIT])
+            plain_run(&query(&stages), &input, &EMPTY, WORK_LEAST, &[187; ARRAY_LIMIT], &[9; 4_000])
         };
         let accepted = outcome(&[none]);
         assert_eq!((accepted.number, &accepted.result[..3]), (0, &EMPTY[..]));
@@ -289,6 +356,7 @@ mod tests {
             let refused = outcome(&last);
             assert_eq!((refused.number, refused.length), (refusal, 0));
             assert!(refused.result.iter().all(|byte| *byte == 0));
+            assert_eq!(refused.positions, [0; 4_000]);
         }
     }
 
@@ -305,7 +373,8 @@ mod tests {
     #[test]
     fn the_result_area_may_be_just_long_enough() {
         let input = array(&[Tree::integer(4)]);
-        let run = |length: usize| plain_run(&NO_STAGE, &input, &EMPTY, WORK_LEAST, &vec![187; length]);
+        let run =
+            |length: usize| plain_run(&NO_STAGE, &input, &EMPTY, WORK_LEAST, &vec![187; length], &ENTRIES);
         let enough = run(input.len());
         assert_eq!((enough.number, enough.result), (0, input.clone()));
         let short = run(input.len() - 1);
@@ -316,7 +385,8 @@ mod tests {
     fn a_limit_on_trees_leaves_a_case_out() {
         let input = array(&[Tree::void().with(1, vec![Tree::void(); 100])]);
         let stages = query(&[Stage::Unwind(vec![1])]);
-        assert_eq!(decide(&stages, &input, &EMPTY, WORK_LEAST, 20_000, 99), None);
-        assert!(decide(&stages, &input, &EMPTY, WORK_LEAST, 20_000, 100).is_some());
+        let lengths = Lengths { work: WORK_LEAST, result: 20_000, positions: POSITIONS_LEAST };
+        assert_eq!(decide(&stages, &input, &EMPTY, lengths, 99), None);
+        assert!(decide(&stages, &input, &EMPTY, lengths, 100).is_some());
     }
 }

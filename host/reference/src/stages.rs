@@ -241,13 +241,25 @@ fn made(item: &Item, tree: &Tree) -> Tree {
     }
 }
 
-/// The group stage: subsets of the grouping pairs by rising sum, and in each
-/// the classes in order of first appearance.
+/// The group stage.
 pub fn grouped(aggregates: &[Pair], grouping: &[Pair], trees: &[Tree]) -> Result<Vec<Tree>, TooLarge> {
+    let trees: Vec<&Tree> = trees.iter().collect();
+    let all = grouped_from(aggregates, grouping, &trees)?;
+    Ok(all.into_iter().map(|(_, tree)| tree).collect())
+}
+
+/// The group stage: subsets of the grouping pairs by rising sum, and in each
+/// the classes in order of first appearance. Of each class its tree, and where
+/// in the list its first member stands, from 0.
+pub fn grouped_from(
+    aggregates: &[Pair],
+    grouping: &[Pair],
+    trees: &[&Tree],
+) -> Result<Vec<(usize, Tree)>, TooLarge> {
     let mut all = Vec::new();
     for subset in 0..1_usize << grouping.len() {
         for class in classes(grouping, subset, trees) {
-            all.push(class_tree(aggregates, grouping, &class)?);
+            all.push((class.first, class_tree(aggregates, grouping, &class)?));
         }
     }
     Ok(all)
@@ -257,19 +269,21 @@ pub fn grouped(aggregates: &[Pair], grouping: &[Pair], trees: &[Tree]) -> Result
 struct Class<'a> {
     values: Vec<Found<'a>>,
     members: Vec<&'a Tree>,
+    /// Where the first member stands in the list.
+    first: usize,
 }
 
 /// The classes of the trees that have exactly a subset's sources.
-fn classes<'a>(grouping: &[Pair], subset: usize, trees: &'a [Tree]) -> Vec<Class<'a>> {
+fn classes<'a>(grouping: &[Pair], subset: usize, trees: &[&'a Tree]) -> Vec<Class<'a>> {
     let mut classes: Vec<Class> = Vec::new();
-    for tree in trees {
+    for (place, tree) in trees.iter().enumerate() {
         let values: Vec<Found> = grouping.iter().map(|pair| apply(&pair.source, tree)).collect();
         if sum_of_present(&values) != subset {
             continue;
         }
         match classes.iter_mut().find(|class| class.values == values) {
             Some(class) => class.members.push(tree),
-            None => classes.push(Class { values, members: vec![tree] }),
+            None => classes.push(Class { values, members: vec![tree], first: place }),
         }
     }
     classes

@@ -95,8 +95,8 @@ impl Root {
 }
 
 /// The size of an array's field.
-pub fn array_size(trees: &[Tree]) -> usize {
-    HEAD + trees.iter().map(Tree::size).sum::<usize>()
+pub fn array_size<'a>(trees: impl IntoIterator<Item = &'a Tree>) -> usize {
+    HEAD + trees.into_iter().map(Tree::size).sum::<usize>()
 }
 
 #[cfg(test)]

@@ -4,7 +4,7 @@
 use reference::bytes::{decode_array, encode_array, encode_query};
 use reference::generate::{day, Day, Random};
 use reference::regroup::{decide_regroup, regrouping};
-use reference::run::{decide, Verdict, WORK_LEAST};
+use reference::run::{decide, Lengths, Verdict, POSITIONS_LEAST, WORK_LEAST};
 use reference::stages::{staged, Stage};
 use reference::tree::{Tree, ARRAY_LIMIT};
 
@@ -20,8 +20,9 @@ fn whole(day: &Day) -> Option<Vec<Tree>> {
 /// The results of the trays, if all runs are accepted.
 fn results(day: &Day) -> Option<Vec<Vec<u8>>> {
     let (query, joined) = (encode_query(&day.stages)?, encode_array(&day.joined)?);
+    let lengths = Lengths { work: WORK_LEAST, result: ARRAY_LIMIT, positions: POSITIONS_LEAST };
     let run = |tray: &Vec<Tree>| {
-        let verdict = decide(&query, &encode_array(tray)?, &joined, WORK_LEAST, ARRAY_LIMIT, MOST_TREES)?;
+        let verdict = decide(&query, &encode_array(tray)?, &joined, lengths, MOST_TREES)?;
         accepted(verdict)
     };
     day.trays.iter().map(run).collect()
@@ -29,7 +30,7 @@ fn results(day: &Day) -> Option<Vec<Vec<u8>>> {
 
 fn accepted(verdict: Verdict) -> Option<Vec<u8>> {
     match verdict {
-        Verdict::Accepted(bytes) => Some(bytes),
+        Verdict::Accepted { bytes, .. } => Some(bytes),
         Verdict::Refused(_) => None,
     }
 }

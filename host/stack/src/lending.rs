@@ -12,13 +12,14 @@ pub enum Call {
 }
 
 /// The query and the two arrays, which are only read, and the lengths of the
-/// work and the result area.
+/// work and the result area, and of a run's position area.
 #[derive(Clone)]
 pub struct Lending {
     pub call: Call,
     pub read: [Vec<u8>; 3],
     pub work_length: usize,
     pub result_length: usize,
+    pub positions_length: usize,
 }
 
 impl Lending {
@@ -30,14 +31,16 @@ impl Lending {
 
 impl From<Case> for Lending {
     fn from(case: Case) -> Lending {
-        let Case { query, input, joined, work_length, result_length } = case;
-        Lending { call: Call::Run, read: [query, input, joined], work_length, result_length }
+        let Case { query, input, joined, work_length, result_length, positions_length } = case;
+        let (call, read) = (Call::Run, [query, input, joined]);
+        Lending { call, read, work_length, result_length, positions_length }
     }
 }
 
 impl From<RegroupCase> for Lending {
     fn from(case: RegroupCase) -> Lending {
         let RegroupCase { query, first, second, work_length, result_length } = case;
-        Lending { call: Call::Regroup, read: [query, first, second], work_length, result_length }
+        let (call, read) = (Call::Regroup, [query, first, second]);
+        Lending { call, read, work_length, result_length, positions_length: 0 }
     }
 }

@@ -28,8 +28,8 @@ use reference::generate::{Cases, RegroupCases};
 use std::collections::BTreeMap;
 use std::process::ExitCode;
 
-/// No call may use more, in bytes: its four arguments on the stack and its
-/// return address included. `TQUERY_STACK_MAX` of `include/tquery.h`.
+/// No call may use more, in bytes: its arguments on the stack and its return
+/// address included. `TQUERY_STACK_MAX` of `include/tquery.h`.
 const BOUND: usize = 10_240;
 
 /// No more bytes of a record may stay behind together: one, where a register
@@ -118,7 +118,7 @@ impl Measured {
     /// A random case. One that was admitted is run a second time, with other records.
     fn random(&mut self, lent: &mut Lent, case: &Lending) {
         let number = self.count(lent, case, "random, number #");
-        if matches!(number, 0 | 8..) {
+        if matches!(number, 0 | 8..=10) {
             let (other, reduces) = masked(case);
             if !reduces {
                 self.left.compare(lent, number, &other);

@@ -8,28 +8,30 @@ const WORDS: usize = 32_768;
 /// How many words at the low end must stay painted, or the stack was too short.
 const SPARE: usize = 512;
 
-/// How many arguments stand on the stack.
-const STACKED: usize = 4;
+/// How many arguments stand in registers, and how many have room on the stack.
+const IN_REGISTERS: usize = 6;
+const STACKED: usize = 6;
 
 /// The length of a word of the stack.
 const WORD: usize = size_of::<u64>();
 
-/// A call of the engine: a function of C, and its arguments. A function that
-/// takes fewer is given the first ones.
+/// A call of the engine: a function of C, and its arguments.
 pub struct Call {
     pub function: *const (),
-    pub arguments: [usize; 10],
+    pub arguments: Vec<usize>,
 }
 
 /// The stack. It is kept at one place, so that two calls with the same
 /// arguments write the same addresses to it.
 pub struct Painted {
     words: Vec<u64>,
+    /// How many arguments of the last call stood on the stack.
+    stacked: usize,
 }
 
 impl Painted {
     pub fn new() -> Painted {
-        Painted { words: (0..WORDS).map(paint).collect() }
+        Painted { words: (0..WORDS).map(paint).collect(), stacked: 0 }
     }
 
     /// Paints the stack and makes a call on it. Answers what the call answers.
@@ -42,11 +44,14 @@ impl Painted {
         let lowest = self.lowest();
         self.words.iter_mut().enumerate().skip(lowest).for_each(|(place, word)| *word = paint(place));
         // The convention: six arguments in registers, the others at the top of the stack, aligned to 16.
-        let top = self.end() - STACKED;
-        for (place, argument) in call.arguments[6..].iter().enumerate() {
+        let top = self.top();
+        let mut arguments = [0; IN_REGISTERS + STACKED];
+        arguments[..call.arguments.len()].copy_from_slice(&call.arguments);
+        self.stacked = call.arguments.len().saturating_sub(IN_REGISTERS);
+        for (place, argument) in arguments[IN_REGISTERS..].iter().enumerate() {
             self.words[top + place] = *argument as u64;
         }
-        let [a, b, c, d, e, f, ..] = call.arguments;
+        let [a, b, c, d, e, f, ..] = arguments;
         let answer;
         // SAFETY: the stack pointer is kept above the arguments during the call; it and the registers that a
         // function saves are as before afterwards. The words are this value's alone, and the caller vouches for
@@ -54,11 +59,11 @@ impl Painted {
         unsafe {
             asm!(
                 "push rbx", "push rbp", "push r12", "push r13", "push r14", "push r15",
-                "mov [r10 + 32], rsp",
+                "mov [r10 + 48], rsp",
                 "mov rsp, r10",
                 "xor ebx, ebx", "xor ebp, ebp", "xor r12, r12", "xor r13, r13", "xor r14, r14", "xor r15, r15",
                 "call r11",
-                "mov rsp, [rsp + 32]",
+                "mov rsp, [rsp + 48]",
                 "pop r15", "pop r14", "pop r13", "pop r12", "pop rbp", "pop rbx",
                 in("r10") self.words.as_mut_ptr().add(top), in("r11") call.function,
                 in("rdi") a, in("rsi") b, in("rdx") c, in("rcx") d, in("r8") e, in("r9") f,
@@ -74,6 +79,11 @@ impl Painted {
     fn end(&self) -> usize {
         let odd = (self.words.as_ptr_range().end as usize / WORD) % 2;
         self.words.len() - 2 + odd
+    }
+
+    /// Where the arguments begin that stand on the stack.
+    fn top(&self) -> usize {
+        self.end() - STACKED
     }
 
     /// The lowest word that is not painted.
@@ -92,7 +102,7 @@ impl Painted {
 
     /// What the last call left on the stack, from the lowest byte that it wrote.
     pub fn left(&self) -> &[u8] {
-        let words = &self.words[self.lowest()..self.end()];
+        let words = &self.words[self.lowest()..self.top() + self.stacked];
         // SAFETY: words are bytes, as many as said.
         unsafe { std::slice::from_raw_parts(words.as_ptr().cast(), words.len() * WORD) }
     }
@@ -107,9 +117,16 @@ fn paint(place: usize) -> u64 {
 mod tests {
     use super::*;
 
-    extern "C" fn sum(a: u64, b: u64, c: u64, d: u64, e: u64, f: u64, g: u64, h: u64, i: u64, j: u64) -> u64 {
-        a + 2 * b + 3 * c + 4 * d + 5 * e + 6 * f + 7 * g + 8 * h + 9 * i + 10 * j
+    macro_rules! sum {
+        ($($name:ident)*) => {
+            /// The sum of its arguments, each times its place.
+            extern "C" fn sum($($name: u64),*) -> u64 {
+                [$($name),*].iter().zip(1..).map(|(argument, place)| argument * place).sum()
+            }
+        };
     }
+
+    sum!(a b c d e f g h i j k l);
 
     /// Writes to so many bytes of its stack at least.
     extern "C" fn deep(bytes: usize) -> u64 {
@@ -122,20 +139,21 @@ mod tests {
 
     #[test]
     fn a_call_has_its_arguments() {
-        let call = Call { function: sum as *const (), arguments: [1, 2, 3, 4, 5, 6, 7, 8, 9, 10] };
-        // SAFETY: the function takes ten numbers.
-        let answer = unsafe { Painted::new().call(&call) };
-        assert_eq!(answer, (1..=10).map(|n| n * n).sum());
+        let mut stack = Painted::new();
+        for count in [2, 10, 12] {
+            let call = Call { function: sum as *const (), arguments: (1..=count).collect() };
+            // SAFETY: the function takes twelve numbers; those that are missing are 0.
+            let answer = unsafe { stack.call(&call) };
+            assert_eq!(answer, (1..=count as u64).map(|n| n * n).sum());
+        }
     }
 
     #[test]
     fn a_call_is_measured() {
         let mut stack = Painted::new();
         let mut use_of = |bytes: usize| {
-            let mut arguments = [0; 10];
-            arguments[0] = bytes;
             // SAFETY: the function takes a number.
-            unsafe { stack.call(&Call { function: deep as *const (), arguments }) };
+            unsafe { stack.call(&Call { function: deep as *const (), arguments: vec![bytes] }) };
             stack.used()
         };
         let (more, less) = (use_of(6_400), use_of(640));

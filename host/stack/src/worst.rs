@@ -11,7 +11,7 @@ use crate::left::Contents;
 use crate::lending::{Call, Lending};
 use reference::bytes::{encode_array, encode_query};
 use reference::bytes::{AGGREGATES_LIMIT, GROUPING_LIMIT, NESTING_LIMIT, PATH_LIMIT, STAGES_LIMIT};
-use reference::run::WORK_LEAST;
+use reference::run::{POSITIONS_LEAST, WORK_LEAST};
 use reference::stages::{Criterion, Data, Item, Pair, Stage};
 use reference::tree::{Root, Tree, ARRAY_LIMIT, DEPTH_LIMIT};
 
@@ -53,7 +53,8 @@ fn case(stages: &[Stage], tree: &Tree, joined: &Tree) -> Lending {
     let query = encode_query(stages).expect("a query of up to 4,096 bytes has a byte form");
     let array = |tree: &Tree| encode_array(std::slice::from_ref(tree)).expect("so has an array");
     let read = [query, array(tree), array(joined)];
-    Lending { call: Call::Run, read, work_length: WORK_LEAST, result_length: ARRAY_LIMIT }
+    let (work_length, result_length, positions_length) = (WORK_LEAST, ARRAY_LIMIT, POSITIONS_LEAST);
+    Lending { call: Call::Run, read, work_length, result_length, positions_length }
 }
 
 /// What a regrouping refuses after it has checked how deep it goes: each last

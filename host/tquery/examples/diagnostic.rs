@@ -38,12 +38,7 @@ const NAMES: [&str; 18] = [
 /// The path of names with points between them, as the paper writes it.
 fn path(names: &str) -> Result<Path, BuildError> {
     // a name that is not listed becomes label 0, which no path takes
-    let label = |name| {
-        NAMES
-            .iter()
-            .position(|known| *known == name)
-            .map_or(0, |at| at as u8 + 1)
-    };
+    let label = |name| NAMES.iter().position(|known| *known == name).map_or(0, |at| at as u8 + 1);
     Path::new(names.split('.').map(label).collect::<Vec<u8>>())
 }
 
@@ -59,10 +54,7 @@ fn moved(from: &str, to: &str) -> Result<Item, BuildError> {
 
 /// The patient's pseudo-identifier, which line 1 asks the hospital for.
 fn identified() -> Result<Item, BuildError> {
-    Ok(Item::place(
-        Array::from([Tree::text("id_xxx")?]),
-        path("patient_id")?,
-    ))
+    Ok(Item::place(Array::from([Tree::text("id_xxx")?]), path("patient_id")?))
 }
 
 const TEMPERATURE_LINES: [&str; 3] = [
@@ -73,9 +65,7 @@ const TEMPERATURE_LINES: [&str; 3] = [
 
 /// Lines 3 to 5: the temperatures of three days.
 fn temperatures() -> Result<Query, BuildError> {
-    let three_days = is("date", 20201128)?
-        .or(is("date", 20201129)?)
-        .or(is("date", 20201130)?);
+    let three_days = is("date", 20201128)?.or(is("date", 20201129)?).or(is("date", 20201130)?);
     Ok(Query::new()
         .matching(three_days)
         .group([Pair::same(path("t")?)], [])
@@ -107,11 +97,7 @@ fn sleep() -> Result<Query, BuildError> {
         .matching(two_days)
         .group([Pair::same(path("quality")?)], [])
         .project([Item::keep(path("quality")?), identified()?])
-        .lookup(
-            path("patient_id")?,
-            path("patient_id")?,
-            path("temperatures")?,
-        )
+        .lookup(path("patient_id")?, path("patient_id")?, path("temperatures")?)
         .project([
             Item::keep(path("quality")?),
             Item::keep(path("patient_id")?),
@@ -139,10 +125,7 @@ const PHONE: &str = r#"[
 /// Stands in for the hospital's service: some temperature of 37 or more.
 fn has_fever(temperatures: &Array) -> bool {
     let is_high = |tree: &Tree| matches!(tree.root(), Root::Integer(value) if *value >= 37);
-    temperatures
-        .iter()
-        .filter_map(|tree| tree.get(2))
-        .any(|array| array.iter().any(is_high))
+    temperatures.iter().filter_map(|tree| tree.get(2)).any(|array| array.iter().any(is_high))
 }
 
 fn print(title: &str, array: &Array) {
@@ -166,11 +149,7 @@ fn show(
         print(line, &array);
     }
     let whole = engine.run_trees(query, input, joined)?;
-    println!(
-        "the same as one query of {} stages: {}\n",
-        query.stages().len(),
-        whole == array
-    );
+    println!("the same as one query of {} stages: {}\n", query.stages().len(), whole == array);
     Ok(whole)
 }
 
@@ -181,32 +160,17 @@ fn diagnose() -> Result<Option<Array>, Box<dyn Error>> {
 
     let watch = WATCH.parse()?;
     print("the watch's records", &watch);
-    let warmth = show(
-        &mut engine,
-        &temperatures()?,
-        &TEMPERATURE_LINES,
-        &watch,
-        &Array::new(),
-    )?;
+    let warmth = show(&mut engine, &temperatures()?, &TEMPERATURE_LINES, &watch, &Array::new())?;
     if !has_fever(&warmth) {
         return Ok(None);
     }
     let phone = PHONE.parse()?;
     print("a fever: the phone's sleep logs", &phone);
-    Ok(Some(show(
-        &mut engine,
-        &sleep()?,
-        &SLEEP_LINES,
-        &phone,
-        &warmth,
-    )?))
+    Ok(Some(show(&mut engine, &sleep()?, &SLEEP_LINES, &phone, &warmth)?))
 }
 
 fn main() -> Result<(), Box<dyn Error>> {
-    let legend: Vec<String> = (1..)
-        .zip(NAMES)
-        .map(|(label, name)| format!("{label} {name}"))
-        .collect();
+    let legend: Vec<String> = (1..).zip(NAMES).map(|(label, name)| format!("{label} {name}")).collect();
     println!("labels: {}\n", legend.join(", "));
     match diagnose()? {
         Some(signals) => print("to detectEncephalopathy", &signals),
@@ -232,11 +196,7 @@ fn gives_the_papers_trees() -> Result<(), Box<dyn Error>> {
 fn groups_by_day_as_the_paper_does() -> Result<(), Box<dyn Error>> {
     let by_day = Query::from_iter(sleep()?.stages()[..3].iter().cloned()).group(
         [Pair::same(path("quality")?)],
-        [
-            Pair::same(path("day")?),
-            Pair::same(path("month")?),
-            Pair::same(path("year")?),
-        ],
+        [Pair::same(path("day")?), Pair::same(path("month")?), Pair::same(path("year")?)],
     );
     let mut work = vec![0; limits::WORK];
     let days = Engine::new(&mut work).run_trees(&by_day, &PHONE.parse()?, &Array::new())?;

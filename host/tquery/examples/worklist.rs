@@ -1,6 +1,7 @@
 //! A worklist, by the engine: of some jobs those whose lens is chosen, a line
-//! for each eye, with the shelf that the lens lies on. The same as
-//! host/c/worklist.c, over areas that are set aside once.
+//! for each eye, with the shelf that the lens lies on and, in front, the
+//! position of the job that it stems from. The same as host/c/worklist.c, over
+//! areas that are set aside once.
 //!
 //! From host/: cargo run --example worklist
 
@@ -21,21 +22,23 @@ const STOCK: &str = r#"[v{1:["progressive 1.6"], 2:["A3"]}]"#;
 /// the lens.
 fn query() -> Result<Query, Box<dyn Error>> {
     let lens = Path::new([2])?;
-    Ok(Query::new()
-        .matching(Criterion::exists(lens.clone()))
-        .unwind(Path::new([3])?)
-        .lookup(lens, Path::new([1])?, Path::new([4])?))
+    Ok(Query::new().matching(Criterion::exists(lens.clone())).unwind(Path::new([3])?).lookup(
+        lens,
+        Path::new([1])?,
+        Path::new([4])?,
+    ))
 }
 
-fn run() -> Result<Array, Box<dyn Error>> {
+/// The lines, and where each came from.
+fn run() -> Result<(Array, Vec<u16>), Box<dyn Error>> {
     let query = query()?.encode()?;
     let jobs = JOBS.parse::<Array>()?.encode()?;
     let stock = STOCK.parse::<Array>()?.encode()?;
 
     let (mut work, mut result) = (vec![0; limits::WORK], vec![0; limits::ARRAY]);
-    let length = Engine::new(&mut work).run(&query, &jobs, &stock, &mut result)?;
-    result.truncate(length);
-    Ok(Array::decode(&result)?)
+    let mut positions = vec![0; limits::POSITIONS];
+    let length = Engine::new(&mut work).run(&query, &jobs, &stock, &mut result, &mut positions)?;
+    Ok((Array::decode(&result[..length])?, positions))
 }
 
 /// The text at the root of the first tree along a path of labels, or a dash.
@@ -48,10 +51,11 @@ fn text<'t>(tree: &'t Tree, path: &[u8]) -> &'t str {
 }
 
 fn worklist() -> Result<String, Box<dyn Error>> {
-    let mut lines = String::from("job   lens             eye    shelf\n");
-    for tree in &run()? {
+    let mut lines = String::from("nr  job   lens             eye    shelf\n");
+    let (trees, positions) = run()?;
+    for (tree, position) in trees.iter().zip(positions) {
         let [job, lens, eye, shelf] = [&[1][..], &[2], &[3], &[4, 2]].map(|path| text(tree, path));
-        lines += &format!("{job:<6}{lens:<17}{eye:<7}{shelf}\n");
+        lines += &format!("{position:>2}  {job:<6}{lens:<17}{eye:<7}{shelf}\n");
     }
     Ok(lines)
 }

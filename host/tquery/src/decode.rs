@@ -67,14 +67,7 @@ impl<'b> Span<'b> {
         }
         let from = self.end - content.len();
         self.at = from + length;
-        Ok((
-            *tag,
-            Span {
-                bytes: self.bytes,
-                at: from,
-                end: self.at,
-            },
-        ))
+        Ok((*tag, Span { bytes: self.bytes, at: from, end: self.at }))
     }
 
     /// Takes a field of one kind: its content.
@@ -82,10 +75,7 @@ impl<'b> Span<'b> {
         let at = self.at;
         match self.field()? {
             (found, content) if found == tag => Ok(content),
-            (found, _) => Err(DecodeError {
-                at,
-                cause: DecodeCause::Tag { wanted, found },
-            }),
+            (found, _) => Err(DecodeError { at, cause: DecodeCause::Tag { wanted, found } }),
         }
     }
 }
@@ -117,9 +107,7 @@ fn tree(span: &mut Span, depth: usize) -> Result<Tree, DecodeError> {
         if label <= before && label != 0 {
             return Err(error(DecodeCause::LabelOrder(label)));
         }
-        tree = tree
-            .with(label, array)
-            .map_err(|limit| error(DecodeCause::Limit(limit)))?;
+        tree = tree.with(label, array).map_err(|limit| error(DecodeCause::Limit(limit)))?;
         before = label;
     }
     Ok(tree)
@@ -145,10 +133,7 @@ fn root(span: &mut Span) -> Result<Root, DecodeError> {
             Err(limit) => error(DecodeCause::Limit(limit)),
         },
         (tags::VOID | tags::BOOLEAN, _) => error(DecodeCause::Length(content.len())),
-        (found, _) => error(DecodeCause::Tag {
-            wanted: "a root",
-            found,
-        }),
+        (found, _) => error(DecodeCause::Tag { wanted: "a root", found }),
     }
 }
 

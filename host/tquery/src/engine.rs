@@ -3,8 +3,18 @@
 use crate::error::Error;
 use crate::query::Query;
 use crate::refusal::{length_of, Refusal};
-use crate::tree::Array;
+use crate::tree::{Array, Tree};
 use crate::{ffi, limits};
+
+/// A tree of a result, and where it came from.
+#[derive(Clone, Debug, PartialEq, Eq)]
+pub struct Line {
+    /// The position, from 1, of the input tree that the tree stems from; for a
+    /// group's tree, of that of the first member of its class.
+    pub position: usize,
+    /// The tree.
+    pub tree: Tree,
+}
 
 /// The engine, over a work area that it is lent.
 ///
@@ -26,9 +36,33 @@ impl<'a> Engine<'a> {
     /// joined array, and gives the length of the result, which then stands at
     /// the start of the result area; the bytes behind it are as they were.
     ///
-    /// A result area of [`limits::ARRAY`] bytes holds every result. What a
-    /// refusal leaves in it is said at each [`Refusal`]. The work area is all
-    /// zero afterwards, unless it was too short.
+    /// The position area begins with one entry for each tree of the result: the
+    /// position, from 1, of the input tree that it stems from. Match, unwind,
+    /// project and lookup hand a tree's position on to all that they make of
+    /// it; a group's tree bears that of the first member of its class, which
+    /// behind another group need not be the smallest. The entries behind them
+    /// are as they were.
+    ///
+    /// A result area of [`limits::ARRAY`] bytes holds every result. The
+    /// position area has [`limits::POSITIONS`] entries or more; with fewer, the
+    /// run is refused with [`Refusal::PositionsShort`]. What a refusal leaves in
+    /// the two is said at each [`Refusal`]. The work area is all zero
+    /// afterwards, unless it or the position area was too short.
+    ///
+    /// ```
+    /// use tquery::{limits, Array, Engine, Path, Query};
+    ///
+    /// # fn main() -> Result<(), Box<dyn std::error::Error>> {
+    /// let eyes = Query::new().unwind(Path::new([3])?).encode()?;
+    /// let jobs = "[v{1:[4711]}, v{1:[4712], 3:[1, 2]}]".parse::<Array>()?.encode()?;
+    ///
+    /// let (mut work, mut result) = (vec![0; limits::WORK], vec![0; limits::ARRAY]);
+    /// let mut positions = [9; limits::POSITIONS];
+    /// Engine::new(&mut work).run(&eyes, &jobs, &[1, 0, 0], &mut result, &mut positions)?;
+    /// assert_eq!(positions[..3], [2, 2, 9]);
+    /// # Ok(())
+    /// # }
+    /// ```
     ///
     /// A run ends, but nothing bounds its time in practice: each unwind
     /// multiplies the trees that pass, and only an array that enters a group
@@ -39,23 +73,45 @@ impl<'a> Engine<'a> {
         input: &[u8],
         joined: &[u8],
         result: &mut [u8],
+        positions: &mut [u16],
     ) -> Result<usize, Refusal> {
-        length_of(ffi::run(query, input, joined, self.work, result))
+        length_of(ffi::run(query, input, joined, self.work, result, positions))
     }
 
-    /// Runs a query over trees and gives trees. It takes its areas from the
-    /// heap; where there is none to spare, encode once and use [`Engine::run`].
-    pub fn run_trees(
-        &mut self,
-        query: &Query,
-        input: &Array,
-        joined: &Array,
-    ) -> Result<Array, Error> {
+    /// Runs a query over trees and gives the trees of the result, each with the
+    /// position of the input tree that it stems from. It takes its areas from
+    /// the heap; where there is none to spare, encode once and use
+    /// [`Engine::run`].
+    ///
+    /// ```
+    /// use tquery::{limits, Array, Engine, Path, Query};
+    ///
+    /// # fn main() -> Result<(), Box<dyn std::error::Error>> {
+    /// let jobs: Array = "[v{1:[4711]}, v{1:[4712], 3:[1, 2]}]".parse()?;
+    /// let eyes = Query::new().unwind(Path::new([3])?);
+    ///
+    /// let mut work = vec![0; limits::WORK];
+    /// for line in Engine::new(&mut work).run_lines(&eyes, &jobs, &Array::new())? {
+    ///     println!("{}: {}, of {}", line.position, line.tree, jobs[line.position - 1]);
+    /// }
+    /// # Ok(())
+    /// # }
+    /// ```
+    pub fn run_lines(&mut self, query: &Query, input: &Array, joined: &Array) -> Result<Vec<Line>, Error> {
         let (query, input, joined) = (query.encode()?, input.encode()?, joined.encode()?);
-        let mut result = vec![0; limits::ARRAY];
-        let length = self.run(&query, &input, &joined, &mut result)?;
+        let (mut result, mut positions) = (vec![0; limits::ARRAY], vec![0; limits::POSITIONS]);
+        let length = self.run(&query, &input, &joined, &mut result, &mut positions)?;
         result.truncate(length);
-        Ok(Array::decode(&result)?)
+        let trees = Array::decode(&result)?.into_iter();
+        let positions = positions.into_iter().map(usize::from);
+        Ok(trees.zip(positions).map(|(tree, position)| Line { position, tree }).collect())
+    }
+
+    /// Runs a query over trees and gives trees, as [`Engine::run_lines`] does,
+    /// without their positions.
+    pub fn run_trees(&mut self, query: &Query, input: &Array, joined: &Array) -> Result<Array, Error> {
+        let lines = self.run_lines(query, input, joined)?;
+        Ok(lines.into_iter().map(|line| line.tree).collect())
     }
 
     /// Groups two arrays again as one: the trees of the first and then those
@@ -103,17 +159,10 @@ impl<'a> Engine<'a> {
 
     /// Groups the trees of two arrays again as one, as [`Engine::regroup`]
     /// does, and gives trees. It takes its areas from the heap.
-    pub fn regroup_trees(
-        &mut self,
-        query: &Query,
-        first: &Array,
-        second: &Array,
-    ) -> Result<Array, Error> {
+    pub fn regroup_trees(&mut self, query: &Query, first: &Array, second: &Array) -> Result<Array, Error> {
         let (query, first, second) = (query.encode()?, first.encode()?, second.encode()?);
         let mut result = vec![0; limits::ARRAY];
-        let length = self
-            .regroup(&query, &first, &second, &mut result)
-            .map_err(Error::Regroup)?;
+        let length = self.regroup(&query, &first, &second, &mut result).map_err(Error::Regroup)?;
         result.truncate(length);
         Ok(Array::decode(&result)?)
     }

@@ -50,74 +50,35 @@ impl fmt::Display for BuildError {
             BuildError::LabelZero => write!(out, "a label is 0; labels run from 1 to 255"),
             BuildError::LabelTwice(label) => write!(out, "the tree has label {label} already"),
             BuildError::PathLong(found) => {
-                write!(
-                    out,
-                    "a path of {found} labels; at most {} are allowed",
-                    limits::PATH
-                )
+                write!(out, "a path of {found} labels; at most {} are allowed", limits::PATH)
             }
             BuildError::TextLong(found) => {
-                write!(
-                    out,
-                    "a text of {found} bytes; at most {} are allowed",
-                    limits::TEXT
-                )
+                write!(out, "a text of {found} bytes; at most {} are allowed", limits::TEXT)
             }
             BuildError::TreeLarge(found) => {
-                write!(
-                    out,
-                    "a tree of {found} bytes; at most {} are allowed",
-                    limits::TREE
-                )
+                write!(out, "a tree of {found} bytes; at most {} are allowed", limits::TREE)
             }
             BuildError::TreeDeep(found) => {
-                write!(
-                    out,
-                    "a tree of depth {found}; at most {} is allowed",
-                    limits::DEPTH
-                )
+                write!(out, "a tree of depth {found}; at most {} is allowed", limits::DEPTH)
             }
             BuildError::ArrayLong(found) => {
-                write!(
-                    out,
-                    "an array of {found} bytes; at most {} are allowed",
-                    limits::ARRAY
-                )
+                write!(out, "an array of {found} bytes; at most {} are allowed", limits::ARRAY)
             }
             BuildError::DestinationEmpty(what) => {
-                write!(
-                    out,
-                    "the destination of a {what} is the empty path; it needs a label"
-                )
+                write!(out, "the destination of a {what} is the empty path; it needs a label")
             }
             BuildError::Divisor(found) => {
-                write!(
-                    out,
-                    "a divisor of {found}; it runs from 1 to {}",
-                    limits::DIVISOR
-                )
+                write!(out, "a divisor of {found}; it runs from 1 to {}", limits::DIVISOR)
             }
-            BuildError::Nesting(found) => write!(
-                out,
-                "criteria and data nested {found} deep; at most {} is allowed",
-                limits::NESTING
-            ),
-            BuildError::Count {
-                what,
-                found,
-                least,
-                most,
-            } => {
-                write!(
-                    out,
-                    "the number of {what} is {found}; it runs from {least} to {most}"
-                )
+            BuildError::Nesting(found) => {
+                write!(out, "criteria and data nested {found} deep; at most {} is allowed", limits::NESTING)
             }
-            BuildError::QueryLong(found) => write!(
-                out,
-                "a query of at least {found} bytes; at most {} are allowed",
-                limits::QUERY
-            ),
+            BuildError::Count { what, found, least, most } => {
+                write!(out, "the number of {what} is {found}; it runs from {least} to {most}")
+            }
+            BuildError::QueryLong(found) => {
+                write!(out, "a query of at least {found} bytes; at most {} are allowed", limits::QUERY)
+            }
         }
     }
 }
@@ -224,10 +185,7 @@ impl fmt::Display for ParseCause {
             ParseCause::Integer => write!(out, "the integer does not fit 64 bits"),
             ParseCause::Label => write!(out, "a label is a number from 1 to 255"),
             ParseCause::Escape => {
-                write!(
-                    out,
-                    "an escape is \\\", \\\\ or \\x with two hexadecimal digits"
-                )
+                write!(out, "an escape is \\\", \\\\ or \\x with two hexadecimal digits")
             }
             ParseCause::Limit(limit) => write!(out, "{limit}"),
         }

@@ -18,6 +18,8 @@ extern "C" {
         work_length: usize,
         result: *mut u8,
         result_length: usize,
+        positions: *mut u16,
+        positions_length: usize,
     ) -> u64;
 
     fn tquery_regroup(
@@ -39,11 +41,19 @@ extern "C" {
 }
 
 /// Runs a query; the answer is the number times 2³² plus the length.
-pub fn run(query: &[u8], input: &[u8], joined: &[u8], work: &mut [u8], result: &mut [u8]) -> u64 {
-    // SAFETY: each pointer and length is that of one slice, so it is not null
-    // and readable for the length. `work` and `result` are `&mut`, so they are
-    // writable and overlap none of the other four. The engine keeps no pointer
-    // after the call, and any bytes may stand in any area.
+pub fn run(
+    query: &[u8],
+    input: &[u8],
+    joined: &[u8],
+    work: &mut [u8],
+    result: &mut [u8],
+    positions: &mut [u16],
+) -> u64 {
+    // SAFETY: each pointer and length is that of one slice, so it is not null,
+    // aligned, and readable for the length. `work`, `result` and `positions`
+    // are `&mut`, so they are writable and overlap none of the other five. The
+    // engine keeps no pointer after the call, and anything may stand in any
+    // area.
     unsafe {
         tquery_run(
             query.as_ptr(),
@@ -56,13 +66,15 @@ pub fn run(query: &[u8], input: &[u8], joined: &[u8], work: &mut [u8], result: &
             work.len(),
             result.as_mut_ptr(),
             result.len(),
+            positions.as_mut_ptr(),
+            positions.len(),
         )
     }
 }
 
 /// Groups two arrays again as one; the answer is the number times 2³² plus the length.
 pub fn regroup(query: &[u8], first: &[u8], second: &[u8], work: &mut [u8], result: &mut [u8]) -> u64 {
-    // SAFETY: as for `run`, whose areas these are but for their names.
+    // SAFETY: as for `run`, whose areas these are but for their names; it takes no positions.
     unsafe {
         tquery_regroup(
             query.as_ptr(),

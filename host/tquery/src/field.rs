@@ -21,10 +21,7 @@ pub(crate) struct Field {
 impl Field {
     /// A field of this content.
     pub fn new(tag: u8, content: &[u8]) -> Field {
-        Field {
-            form: enclose(tag, content),
-            nesting: 0,
-        }
+        Field { form: enclose(tag, content), nesting: 0 }
     }
 
     /// A field that holds others, and is neither criterion nor data.
@@ -43,22 +40,12 @@ impl Field {
     /// This field, or a mistake where the count of its parts is out of range.
     pub fn counted(self, what: &'static str, found: usize, least: usize, most: usize) -> Field {
         let wrong = found < least || most < found;
-        self.unless(
-            wrong,
-            BuildError::Count {
-                what,
-                found,
-                least,
-                most,
-            },
-        )
+        self.unless(wrong, BuildError::Count { what, found, least, most })
     }
 
     /// This field, or a mistake where something is wrong; an earlier mistake stays.
     pub fn unless(self, wrong: bool, mistake: BuildError) -> Field {
-        let form = self
-            .form
-            .and_then(|bytes| if wrong { Err(mistake) } else { Ok(bytes) });
+        let form = self.form.and_then(|bytes| if wrong { Err(mistake) } else { Ok(bytes) });
         Field { form, ..self }
     }
 

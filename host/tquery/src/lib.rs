@@ -2,12 +2,14 @@
 //!
 //! The engine runs a query of 0 to 8 stages (match, unwind, project, group
 //! and lookup, after Tquery) over an array of trees, with one joined array,
-//! and writes an array or refuses by one of ten numbers. It is written in
-//! Rattle and proved against the definitions of its scope, "document 01"; it
-//! takes no heap and keeps no state.
+//! and writes an array, and where each of its trees came from, or refuses by
+//! one of eleven numbers. It is written in Rattle and proved against the
+//! definitions of its scope, "document 01" and the requests of "document 02";
+//! it takes no heap and keeps no state.
 //!
 //! The engine speaks bytes: it is lent a query, an input, a joined array, a
-//! work area and a result area. This crate is the Rust side of that:
+//! work area, a result area and a position area. This crate is the Rust side
+//! of that:
 //!
 //! - [`Engine`] runs byte forms over lent areas, with Rust's references in
 //!   place of the C header's promises on pointers; [`check_array`] and
@@ -17,9 +19,11 @@
 //!   form is a [`BuildError`], which says why.
 //! - [`Tree`], [`Root`] and [`Array`] are the data, with their byte form both
 //!   ways and document 01's notation both ways: `v{1:[5, 6], 2:[]}`.
+//! - [`Line`] is a tree of a result with the position of the input tree that it
+//!   stems from: what a maker prints beside it.
 //! - [`Trays`] makes one list of a day whose records come in trays, each an
 //!   array, and are too many for one; [`Engine::regroup`] is the call for it.
-//! - [`Refusal`] has the ten causes, with document 01's numbers and words.
+//! - [`Refusal`] has the eleven causes, with the documents' numbers and words.
 //!
 //! Nothing here panics, whatever it is given. What is proved is the engine;
 //! this crate is tested, and its unsafe code is one small module.
@@ -52,20 +56,22 @@
 //!
 //! # Areas
 //!
-//! [`Engine::run`] takes byte forms and a result area, and nothing else; it
-//! is the call for a machine that has its areas set aside. The encoded query
-//! serves any number of runs:
+//! [`Engine::run`] takes byte forms, a result area and a position area, and
+//! nothing else; it is the call for a machine that has its areas set aside. The
+//! encoded query serves any number of runs:
 //!
 //! ```
-//! use tquery::{Array, Engine, Query, Refusal};
+//! use tquery::{limits, Array, Engine, Query, Refusal};
 //!
 //! let query = Query::new().encode()?;
 //! let empty = Array::new().encode()?;
-//! let (mut work, mut result) = ([0; 65_536], [0xff; 4]);
+//! let (mut work, mut result) = ([0; limits::WORK], [0xff; 4]);
+//! let mut positions = [0; limits::POSITIONS];
 //! let mut engine = Engine::new(&mut work);
-//! assert_eq!(engine.run(&query, &empty, &empty, &mut result), Ok(3));
+//! assert_eq!(engine.run(&query, &empty, &empty, &mut result, &mut positions), Ok(3));
 //! assert_eq!(result, [1, 0, 0, 0xff]);
-//! assert_eq!(engine.run(&query, &empty, &empty, &mut result[..2]), Err(Refusal::ResultLong));
+//! let refused = engine.run(&query, &empty, &empty, &mut result[..2], &mut positions);
+//! assert_eq!(refused, Err(Refusal::ResultLong));
 //! assert_eq!(result, [0, 0, 0, 0xff]);
 //! # Ok::<(), tquery::BuildError>(())
 //! ```
@@ -93,7 +99,7 @@ mod tree;
 #[doc = include_str!("../README.md")]
 struct Readme;
 
-pub use engine::{check_array, check_query, Engine};
+pub use engine::{check_array, check_query, Engine, Line};
 pub use error::{BuildError, DecodeCause, DecodeError, Error, ParseCause, ParseError};
 pub use path::Path;
 pub use query::{Criterion, Data, Item, Pair, Query, Stage};

@@ -1,9 +1,12 @@
 //! The limits of the format, by name.
 //!
-//! Sizes are in bytes and measure a whole field, its head included.
+//! Sizes are in bytes, unless something else is said, and measure a whole
+//! field, its head included.
 
 /// The least work area.
 pub const WORK: usize = 65_536;
+/// The least position area, in entries: as many as an array can have trees.
+pub const POSITIONS: usize = 2_730;
 /// The largest query.
 pub const QUERY: usize = 4_096;
 /// The largest array: an input, a joined array or a result.

@@ -31,18 +31,14 @@ impl Display for Text {
 fn put_character(character: char, out: &mut Formatter<'_>) -> fmt::Result {
     match character {
         '"' | '\\' => write!(out, "\\{character}"),
-        _ if character.is_control() => {
-            put_bytes(character.encode_utf8(&mut [0; 4]).as_bytes(), out)
-        }
+        _ if character.is_control() => put_bytes(character.encode_utf8(&mut [0; 4]).as_bytes(), out),
         _ => out.write_char(character),
     }
 }
 
 /// Writes bytes as escapes.
 fn put_bytes(bytes: &[u8], out: &mut Formatter<'_>) -> fmt::Result {
-    bytes
-        .iter()
-        .try_for_each(|byte| write!(out, "\\x{byte:02x}"))
+    bytes.iter().try_for_each(|byte| write!(out, "\\x{byte:02x}"))
 }
 
 impl Display for Root {
@@ -238,10 +234,7 @@ impl<'t> Reader<'t> {
         let label = self.label()?;
         self.mark(":")?;
         let array = self.array(depth + 1)?;
-        tree.with(label, array).map_err(|limit| ParseError {
-            at,
-            cause: ParseCause::Limit(limit),
-        })
+        tree.with(label, array).map_err(|limit| ParseError { at, cause: ParseCause::Limit(limit) })
     }
 
     fn label(&mut self) -> Result<u8, ParseError> {
@@ -249,10 +242,7 @@ impl<'t> Reader<'t> {
         let at = self.at;
         match self.word().parse() {
             Ok(label) if label != 0 => Ok(label),
-            _ => Err(ParseError {
-                at,
-                cause: ParseCause::Label,
-            }),
+            _ => Err(ParseError { at, cause: ParseCause::Label }),
         }
     }
 
@@ -270,9 +260,7 @@ impl<'t> Reader<'t> {
                 Ok(value) => Ok(Root::Integer(value)),
                 Err(_) => wrong(ParseCause::Integer),
             },
-            _ => wrong(ParseCause::Expected(
-                "a root (v, true, false, an integer or a text)",
-            )),
+            _ => wrong(ParseCause::Expected("a root (v, true, false, an integer or a text)")),
         }
     }
 
@@ -291,10 +279,7 @@ impl<'t> Reader<'t> {
                 }
             }
         }
-        Text::new(bytes).map_err(|limit| ParseError {
-            at: start,
-            cause: ParseCause::Limit(limit),
-        })
+        Text::new(bytes).map_err(|limit| ParseError { at: start, cause: ParseCause::Limit(limit) })
     }
 
     /// Takes an escape: the byte that it stands for.
@@ -316,10 +301,7 @@ impl<'t> Reader<'t> {
         while self.takes(".") {
             labels.push(self.label()?);
         }
-        Path::new(labels).map_err(|limit| ParseError {
-            at: 0,
-            cause: ParseCause::Limit(limit),
-        })
+        Path::new(labels).map_err(|limit| ParseError { at: 0, cause: ParseCause::Limit(limit) })
     }
 }
 

@@ -31,10 +31,7 @@ impl Criterion {
 
     /// The path gives exactly this array: roots, labels, order and length.
     pub fn equal(path: Path, array: impl Into<Array>) -> Criterion {
-        Criterion(Field::nested(
-            tags::EQUAL,
-            &[path.into(), array.into().into()],
-        ))
+        Criterion(Field::nested(tags::EQUAL, &[path.into(), array.into().into()]))
     }
 
     /// Both paths give the same array, or both are absent.
@@ -91,10 +88,7 @@ impl Data {
 
     /// The first data if the tree meets the criterion, else the second.
     pub fn choice(criterion: Criterion, then: impl Into<Data>, otherwise: impl Into<Data>) -> Data {
-        Data(Field::nested(
-            tags::CHOICE,
-            &[criterion.0, then.into().0, otherwise.into().0],
-        ))
+        Data(Field::nested(tags::CHOICE, &[criterion.0, then.into().0, otherwise.into().0]))
     }
 
     /// What the path gives, each integer root divided by a divisor of 1 to
@@ -137,10 +131,7 @@ impl Item {
 
     /// The data, at a destination that is not the empty path.
     pub fn place(data: impl Into<Data>, destination: Path) -> Item {
-        Item(Field::of(
-            tags::PLACE,
-            &[data.into().0, target(destination, PLACE)],
-        ))
+        Item(Field::of(tags::PLACE, &[data.into().0, target(destination, PLACE)]))
     }
 }
 
@@ -151,10 +142,7 @@ pub struct Pair(Field);
 impl Pair {
     /// From a source to a destination that is not the empty path.
     pub fn new(source: Path, destination: Path) -> Pair {
-        Pair(Field::of(
-            tags::PAIR,
-            &[source.into(), target(destination, PAIR)],
-        ))
+        Pair(Field::of(tags::PAIR, &[source.into(), target(destination, PAIR)]))
     }
 
     /// From a path to the same path, which is not the empty one.
@@ -191,12 +179,7 @@ impl Stage {
         aggregates: impl IntoIterator<Item = Pair>,
         grouping: impl IntoIterator<Item = Pair>,
     ) -> Stage {
-        let aggregates = pairs(
-            tags::AGGREGATES,
-            aggregates,
-            "aggregates",
-            limits::AGGREGATES,
-        );
+        let aggregates = pairs(tags::AGGREGATES, aggregates, "aggregates", limits::AGGREGATES);
         let grouping = pairs(tags::GROUPING, grouping, "grouping pairs", limits::GROUPING);
         Stage(Field::of(tags::GROUP, &[aggregates, grouping]))
     }
@@ -205,10 +188,7 @@ impl Stage {
     /// whose `right` equals the tree's `left`.
     pub fn lookup(left: Path, right: Path, destination: Path) -> Stage {
         let destination = target(destination, LOOKUP);
-        Stage(Field::of(
-            tags::LOOKUP,
-            &[left.into(), right.into(), destination],
-        ))
+        Stage(Field::of(tags::LOOKUP, &[left.into(), right.into(), destination]))
     }
 }
 

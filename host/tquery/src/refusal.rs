@@ -3,15 +3,17 @@
 use std::error::Error;
 use std::fmt;
 
-/// Why the engine refused a call: the ten causes of document 01's table.
+/// Why the engine refused a call: the ten causes of document 01's table, and
+/// number 11 of document 02.
 ///
-/// A run tests them in the order of their numbers. The words of `Display` are
-/// the table's. A regrouping has other causes for some of the numbers, which
+/// A run tests them in the order of their numbers, but 11 between 1 and 2. What
+/// is said of the result area holds of the position area too. The words of
+/// `Display` are the table's. A regrouping has other causes for some of the numbers, which
 /// [`Refusal::regroup_words`] says.
 #[derive(Clone, Copy, Debug, PartialEq, Eq, Hash)]
 #[non_exhaustive]
 pub enum Refusal {
-    /// 1: the work area has under 65,536 bytes. It and the result area are as they were.
+    /// 1: the work area has under 65,536 bytes. All areas are as they were.
     WorkShort,
     /// 2: the query has over 4,096 bytes. The result area is as it was.
     QueryLong,
@@ -38,14 +40,17 @@ pub enum Refusal {
     /// 10: the last array has over 16,384 bytes, or more than the result area.
     /// The result area is all zero.
     ResultLong,
-    /// A number that is not in document 01's table. The engine that this crate
+    /// 11: the position area has under 2,730 entries. All areas are as they
+    /// were. It does not come of a regrouping, which takes no position area.
+    PositionsShort,
+    /// A number that is in neither document's table. The engine that this crate
     /// was written for never gives one; a later engine may.
     Unlisted(u32),
 }
 
 impl Refusal {
-    /// The ten of document 01's table, number 1 first.
-    pub const ALL: [Refusal; 10] = [
+    /// All of them, number 1 first.
+    pub const ALL: [Refusal; 11] = [
         Refusal::WorkShort,
         Refusal::QueryLong,
         Refusal::QueryMalformed,
@@ -56,9 +61,10 @@ impl Refusal {
         Refusal::TreeLarge,
         Refusal::GroupLong,
         Refusal::ResultLong,
+        Refusal::PositionsShort,
     ];
 
-    /// Document 01's number of this refusal.
+    /// The documents' number of this refusal.
     pub fn number(self) -> u32 {
         match self {
             Refusal::WorkShort => 1,
@@ -71,6 +77,7 @@ impl Refusal {
             Refusal::TreeLarge => 8,
             Refusal::GroupLong => 9,
             Refusal::ResultLong => 10,
+            Refusal::PositionsShort => 11,
             Refusal::Unlisted(number) => number,
         }
     }
@@ -88,6 +95,7 @@ impl Refusal {
             Refusal::TreeLarge => "tree too large in a stretch",
             Refusal::GroupLong => "array entering a group over 16,384 bytes",
             Refusal::ResultLong => "final array over 16,384 bytes or over the result area",
+            Refusal::PositionsShort => "position area under 2,730 entries",
             Refusal::Unlisted(_) => "a cause that this crate does not know",
         }
     }
@@ -155,10 +163,7 @@ mod tests {
 
     #[test]
     fn a_number_of_a_later_engine_has_words_too() {
-        assert_eq!(length_of(11 << 32), Err(Refusal::Unlisted(11)));
-        assert_eq!(
-            Refusal::Unlisted(11).to_string(),
-            "refused 11: a cause that this crate does not know"
-        );
+        assert_eq!(length_of(99 << 32), Err(Refusal::Unlisted(99)));
+        assert_eq!(Refusal::Unlisted(99).to_string(), "refused 99: a cause that this crate does not know");
     }
 }

@@ -99,8 +99,8 @@ impl Trays {
     /// Runs the query over the byte form of the next tray, with the day's
     /// joined array, and takes the result into the list.
     pub fn run(&mut self, engine: &mut Engine<'_>, tray: &[u8], joined: &[u8]) -> Result<(), TrayError> {
-        let mut result = vec![0; limits::ARRAY];
-        match engine.run(&self.query, tray, joined, &mut result) {
+        let (mut result, mut positions) = (vec![0; limits::ARRAY], vec![0; limits::POSITIONS]);
+        match engine.run(&self.query, tray, joined, &mut result, &mut positions) {
             Ok(length) => self.take(engine, &result[..length]),
             Err(refusal) => {
                 self.come += 1;

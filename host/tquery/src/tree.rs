@@ -99,12 +99,7 @@ impl Tree {
     /// A tree of this root and no labels.
     pub fn new(root: Root) -> Tree {
         let size = HEAD + root.size();
-        Tree {
-            root,
-            labels: BTreeMap::new(),
-            size,
-            height: 1,
-        }
+        Tree { root, labels: BTreeMap::new(), size, height: 1 }
     }
 
     /// The bare void tree.

@@ -11,9 +11,7 @@ fn field(tag: u8, content: &[u8]) -> Vec<u8> {
 
 /// A field wrapped in fields of these tags, the first outermost.
 fn wrapped(tags: &[u8], inner: &[u8]) -> Vec<u8> {
-    tags.iter()
-        .rev()
-        .fold(inner.to_vec(), |content, tag| field(*tag, &content))
+    tags.iter().rev().fold(inner.to_vec(), |content, tag| field(*tag, &content))
 }
 
 fn path(labels: &[u8]) -> Vec<u8> {
@@ -62,18 +60,9 @@ fn counts() {
         takes(20, &[field(50, &left), field(51, &right)].concat())
     };
     let stages = |count| check_query(&field(16, &field(18, &path(&[1])).repeat(count))).is_ok();
-    assert_eq!(
-        [0, 1, limits::ITEMS, limits::ITEMS + 1].map(items),
-        [false, true, true, false]
-    );
-    assert_eq!(
-        [0, 1, limits::LIST, limits::LIST + 1].map(list),
-        [false, true, true, false]
-    );
-    assert_eq!(
-        [0, limits::STAGES, limits::STAGES + 1].map(stages),
-        [true, true, false]
-    );
+    assert_eq!([0, 1, limits::ITEMS, limits::ITEMS + 1].map(items), [false, true, true, false]);
+    assert_eq!([0, 1, limits::LIST, limits::LIST + 1].map(list), [false, true, true, false]);
+    assert_eq!([0, limits::STAGES, limits::STAGES + 1].map(stages), [true, true, false]);
     assert!(group(0, 0) && group(limits::AGGREGATES, limits::GROUPING));
     assert!(!group(limits::AGGREGATES + 1, 0) && !group(0, limits::GROUPING + 1));
 }

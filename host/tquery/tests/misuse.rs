@@ -32,10 +32,7 @@ fn paths() {
 fn texts_and_trees() {
     assert!(Text::new([0xff; 255]).is_ok());
     assert_eq!(Text::new([0; 256]), Err(BuildError::TextLong(256)));
-    assert_eq!(
-        Tree::void().with(0, Array::new()),
-        Err(BuildError::LabelZero)
-    );
+    assert_eq!(Tree::void().with(0, Array::new()), Err(BuildError::LabelZero));
     let tree = Tree::void().with(1, Array::new()).expect("a tree");
     assert_eq!(tree.with(1, [5]), Err(BuildError::LabelTwice(1)));
 }
@@ -77,12 +74,7 @@ fn nesting_without_end() {
 
 #[test]
 fn counts() {
-    let count = |what, found, least, most| BuildError::Count {
-        what,
-        found,
-        least,
-        most,
-    };
+    let count = |what, found, least, most| BuildError::Count { what, found, least, most };
     let items = |n| Query::new().project(vec![Item::keep(path("1")); n]);
     let list = |n| project(Data::list(vec![Data::path(path("1")); n]));
     let group = |n, m| {
@@ -90,19 +82,8 @@ fn counts() {
         Query::new().group(pairs(n), pairs(m))
     };
     let stages = |n| (0..n).map(|_| Stage::unwind(path("1"))).collect::<Query>();
-    for good in [
-        items(1),
-        items(16),
-        list(1),
-        list(8),
-        group(0, 0),
-        group(8, 4),
-        stages(8),
-    ] {
-        assert_eq!(
-            tquery::check_query(&good.encode().expect("a query")),
-            Ok(())
-        );
+    for good in [items(1), items(16), list(1), list(8), group(0, 0), group(8, 4), stages(8)] {
+        assert_eq!(tquery::check_query(&good.encode().expect("a query")), Ok(()));
     }
     fails(items(0), count("items of a project", 0, 1, 16));
     fails(items(17), count("items of a project", 17, 1, 16));
@@ -116,23 +97,11 @@ fn counts() {
 #[test]
 fn destinations_and_divisors() {
     let empty = Path::empty;
-    fails(
-        Query::new().project([Item::place(path("1"), empty())]),
-        BuildError::DestinationEmpty("place"),
-    );
-    fails(
-        Query::new().group([Pair::new(path("1"), empty())], []),
-        BuildError::DestinationEmpty("pair"),
-    );
-    fails(
-        Query::new().lookup(empty(), empty(), empty()),
-        BuildError::DestinationEmpty("lookup"),
-    );
+    fails(Query::new().project([Item::place(path("1"), empty())]), BuildError::DestinationEmpty("place"));
+    fails(Query::new().group([Pair::new(path("1"), empty())], []), BuildError::DestinationEmpty("pair"));
+    fails(Query::new().lookup(empty(), empty(), empty()), BuildError::DestinationEmpty("lookup"));
     fails(project(Data::reduced(path("1"), 0)), BuildError::Divisor(0));
-    fails(
-        project(Data::reduced(path("1"), 10_001)),
-        BuildError::Divisor(10_001),
-    );
+    fails(project(Data::reduced(path("1"), 10_001)), BuildError::Divisor(10_001));
 }
 
 #[test]
@@ -155,25 +124,14 @@ fn the_first_mistake_is_told() {
 #[test]
 fn mistakes_have_words() {
     let words = |error: BuildError| error.to_string();
-    assert_eq!(
-        words(BuildError::PathLong(9)),
-        "a path of 9 labels; at most 8 are allowed"
-    );
-    assert_eq!(
-        words(BuildError::Divisor(0)),
-        "a divisor of 0; it runs from 1 to 10000"
-    );
+    assert_eq!(words(BuildError::PathLong(9)), "a path of 9 labels; at most 8 are allowed");
+    assert_eq!(words(BuildError::Divisor(0)), "a divisor of 0; it runs from 1 to 10000");
     assert_eq!(
         words(BuildError::DestinationEmpty("pair")),
         "the destination of a pair is the empty path; it needs a label"
     );
     assert_eq!(
-        words(BuildError::Count {
-            what: "stages of a query",
-            found: 9,
-            least: 0,
-            most: 8
-        }),
+        words(BuildError::Count { what: "stages of a query", found: 9, least: 0, most: 8 }),
         "the number of stages of a query is 9; it runs from 0 to 8"
     );
 }
@@ -185,56 +143,26 @@ fn bytes_that_are_no_array() {
         Array::decode(bytes).map_err(|error| error.to_string())
     };
     let error = |words: &str| Err(words.to_string());
-    assert_eq!(
-        wrong(&[]),
-        error("at byte 0: the bytes end before the field does")
-    );
-    assert_eq!(
-        wrong(&[1, 0, 1]),
-        error("at byte 0: the bytes end before the field does")
-    );
-    assert_eq!(
-        wrong(&[1, 0, 0, 9]),
-        error("at byte 3: bytes follow where the field should have ended")
-    );
-    assert_eq!(
-        wrong(&[16, 0, 0]),
-        error("at byte 0: an array should stand here, but the tag is 16")
-    );
-    assert_eq!(
-        wrong(&[1, 0, 3, 2, 0, 0]),
-        error("at byte 6: the bytes end before the field does")
-    );
+    assert_eq!(wrong(&[]), error("at byte 0: the bytes end before the field does"));
+    assert_eq!(wrong(&[1, 0, 1]), error("at byte 0: the bytes end before the field does"));
+    assert_eq!(wrong(&[1, 0, 0, 9]), error("at byte 3: bytes follow where the field should have ended"));
+    assert_eq!(wrong(&[16, 0, 0]), error("at byte 0: an array should stand here, but the tag is 16"));
+    assert_eq!(wrong(&[1, 0, 3, 2, 0, 0]), error("at byte 6: the bytes end before the field does"));
     assert_eq!(
         wrong(&[1, 0, 6, 2, 0, 3, 9, 0, 0]),
         error("at byte 6: a root should stand here, but the tag is 9")
     );
-    assert_eq!(
-        wrong(&[1, 0, 7, 2, 0, 4, 4, 0, 1, 2]),
-        error("at byte 6: a boolean is 0 or 1, not 2")
-    );
+    assert_eq!(wrong(&[1, 0, 7, 2, 0, 4, 4, 0, 1, 2]), error("at byte 6: a boolean is 0 or 1, not 2"));
     assert_eq!(
         wrong(&[1, 0, 7, 2, 0, 4, 3, 0, 1, 0]),
         error("at byte 6: a root of this kind cannot have 1 bytes")
     );
-    let labels = |first, second| {
-        vec![
-            1, 0, 20, 2, 0, 17, 3, 0, 0, 7, 0, 4, first, 1, 0, 0, 7, 0, 4, second, 1, 0, 0,
-        ]
-    };
+    let labels =
+        |first, second| vec![1, 0, 20, 2, 0, 17, 3, 0, 0, 7, 0, 4, first, 1, 0, 0, 7, 0, 4, second, 1, 0, 0];
     assert!(Array::decode(&labels(1, 2)).is_ok());
-    assert_eq!(
-        wrong(&labels(2, 1)),
-        error("at byte 16: label 1 does not rise above the one before it")
-    );
-    assert_eq!(
-        wrong(&labels(0, 1)),
-        error("at byte 9: a label is 0; labels run from 1 to 255")
-    );
-    let long = DecodeError {
-        at: 0,
-        cause: DecodeCause::Limit(BuildError::ArrayLong(16_385)),
-    };
+    assert_eq!(wrong(&labels(2, 1)), error("at byte 16: label 1 does not rise above the one before it"));
+    assert_eq!(wrong(&labels(0, 1)), error("at byte 9: a label is 0; labels run from 1 to 255"));
+    let long = DecodeError { at: 0, cause: DecodeCause::Limit(BuildError::ArrayLong(16_385)) };
     assert_eq!(Array::decode(&[1; 16_385]), Err(long));
 }
 
@@ -244,32 +172,20 @@ fn bytes_that_are_no_tree() {
     assert_eq!(wrong(&[2, 0, 3, 3, 0, 0]), Ok(Tree::void()));
     assert_eq!(wrong(&[2, 0, 3, 3, 0, 0, 0]), Err(DecodeCause::Trailing));
     assert_eq!(wrong(&[]), Err(DecodeCause::Cut));
-    let tag = DecodeCause::Tag {
-        wanted: "a tree",
-        found: 1,
-    };
+    let tag = DecodeCause::Tag { wanted: "a tree", found: 1 };
     assert_eq!(wrong(&[1, 0, 0]), Err(tag));
 }
 
 #[test]
 fn notations_that_are_none() {
-    let wrong = |text: &str| {
-        text.parse::<Array>()
-            .map_err(|error: ParseError| error.to_string())
-    };
+    let wrong = |text: &str| text.parse::<Array>().map_err(|error: ParseError| error.to_string());
     let error = |words: &str| Err(words.to_string());
-    assert_eq!(
-        wrong(""),
-        error("at byte 0 of the text: [ should stand here")
-    );
+    assert_eq!(wrong(""), error("at byte 0 of the text: [ should stand here"));
     assert_eq!(
         wrong("[5"),
         error("at byte 2 of the text: a comma or the end of the array should stand here")
     );
-    assert_eq!(
-        wrong("[5] 6"),
-        error("at byte 4 of the text: the end should stand here")
-    );
+    assert_eq!(wrong("[5] 6"), error("at byte 4 of the text: the end should stand here"));
     assert_eq!(
         wrong("[w]"),
         error("at byte 1 of the text: a root (v, true, false, an integer or a text) should stand here")
@@ -278,41 +194,17 @@ fn notations_that_are_none() {
         wrong("[9223372036854775808]"),
         error("at byte 1 of the text: the integer does not fit 64 bits")
     );
-    assert_eq!(
-        wrong("[v{0:[]}]"),
-        error("at byte 3 of the text: a label is a number from 1 to 255")
-    );
-    assert_eq!(
-        wrong("[v{256:[]}]"),
-        error("at byte 3 of the text: a label is a number from 1 to 255")
-    );
-    assert_eq!(
-        wrong("[v{1:[], 1:[]}]"),
-        error("at byte 9 of the text: the tree has label 1 already")
-    );
-    assert_eq!(
-        wrong(r#"["a]"#),
-        error("at byte 4 of the text: the end of the text should stand here")
-    );
+    assert_eq!(wrong("[v{0:[]}]"), error("at byte 3 of the text: a label is a number from 1 to 255"));
+    assert_eq!(wrong("[v{256:[]}]"), error("at byte 3 of the text: a label is a number from 1 to 255"));
+    assert_eq!(wrong("[v{1:[], 1:[]}]"), error("at byte 9 of the text: the tree has label 1 already"));
+    assert_eq!(wrong(r#"["a]"#), error("at byte 4 of the text: the end of the text should stand here"));
     assert_eq!(
         wrong(r#"["\n"]"#),
         error(r#"at byte 2 of the text: an escape is \", \\ or \x with two hexadecimal digits"#)
     );
     assert!(wrong(&"[v{1:".repeat(100_000)).is_err());
-    for text in [
-        "-",
-        "--1",
-        "[-]",
-        "[,]",
-        "[5,]",
-        "é",
-        "[\"\\x",
-        "[\"\\xg0\"]",
-        "v{",
-        "v{1",
-        "v{1:",
-        "[\\",
-    ] {
+    for text in ["-", "--1", "[-]", "[,]", "[5,]", "é", "[\"\\x", "[\"\\xg0\"]", "v{", "v{1", "v{1:", "[\\"]
+    {
         assert!(wrong(text).is_err(), "{text}");
         assert!(text.parse::<Tree>().is_err(), "{text}");
     }
@@ -321,13 +213,7 @@ fn notations_that_are_none() {
 #[test]
 fn notations_that_are_read_freely() {
     let tree = |text: &str| text.parse::<Tree>().map(|tree| tree.to_string());
-    assert_eq!(
-        tree(" v { 2 : [ 9{} ] , 1:[] } "),
-        Ok("v{1:[], 2:[9]}".to_string())
-    );
-    assert_eq!(
-        tree(r#""a\"\\\x00\xffé""#),
-        Ok(r#""a\"\\\x00\xffé""#.to_string())
-    );
+    assert_eq!(tree(" v { 2 : [ 9{} ] , 1:[] } "), Ok("v{1:[], 2:[9]}".to_string()));
+    assert_eq!(tree(r#""a\"\\\x00\xffé""#), Ok(r#""a\"\\\x00\xffé""#.to_string()));
     assert_eq!(tree("-9223372036854775808"), Ok(i64::MIN.to_string()));
 }

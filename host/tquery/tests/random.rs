@@ -2,8 +2,7 @@
 
 use tquery::{check_array, check_query, limits};
 use tquery::{
-    Array, Criterion, Data, Engine, Error, Item, Pair, Path, Query, Refusal, Root, Stage, Text,
-    Tree,
+    Array, Criterion, Data, Engine, Error, Item, Line, Pair, Path, Query, Refusal, Root, Stage, Text, Tree,
 };
 
 /// Marsaglia's xorshift, so that a failure can be made again.
@@ -26,12 +25,7 @@ impl Draws {
         self.draw() as u8
     }
 
-    fn times<T>(
-        &mut self,
-        least: usize,
-        most: usize,
-        mut make: impl FnMut(&mut Draws) -> T,
-    ) -> Vec<T> {
+    fn times<T>(&mut self, least: usize, most: usize, mut make: impl FnMut(&mut Draws) -> T) -> Vec<T> {
         let count = least + self.below(most - least + 1);
         (0..count).map(|_| make(self)).collect()
     }
@@ -87,11 +81,7 @@ impl Draws {
             2 => Data::reduced(self.path(0), 1 + self.below(10_000) as u16),
             3 => Data::list(self.times(1, 3, |draws| draws.data(depth - 1))),
             4 => Data::criterion(self.criterion(depth - 1)),
-            _ => Data::choice(
-                self.criterion(depth - 1),
-                self.data(depth - 1),
-                self.data(depth - 1),
-            ),
+            _ => Data::choice(self.criterion(depth - 1), self.data(depth - 1), self.data(depth - 1)),
         }
     }
 
@@ -108,10 +98,16 @@ impl Draws {
 
     fn stage(&mut self) -> Stage {
         match self.below(5) {
+            0 => Stage::group(self.pairs(), self.pairs()),
+            _ => self.stage_but_group(),
+        }
+    }
+
+    fn stage_but_group(&mut self) -> Stage {
+        match self.below(4) {
             0 => Stage::matching(self.criterion(3)),
             1 => Stage::unwind(self.path(0)),
             2 => Stage::project(self.times(1, 4, Draws::item)),
-            3 => Stage::group(self.pairs(), self.pairs()),
             _ => Stage::lookup(self.path(0), self.path(0), self.path(1)),
         }
     }
@@ -145,18 +141,10 @@ fn decoding_takes_what_the_engine_accepts() {
         for _ in 0..=draws.below(2) {
             let at = draws.below(bytes.len());
             // mostly small changes: they keep a form that is nearly right
-            bytes[at] = if draws.below(2) == 0 {
-                draws.byte()
-            } else {
-                bytes[at].wrapping_add(1)
-            };
+            bytes[at] = if draws.below(2) == 0 { draws.byte() } else { bytes[at].wrapping_add(1) };
         }
         let decoded = Array::decode(&bytes);
-        assert_eq!(
-            decoded.is_ok(),
-            check_array(&bytes).is_ok(),
-            "{bytes:02x?}: {decoded:?}"
-        );
+        assert_eq!(decoded.is_ok(), check_array(&bytes).is_ok(), "{bytes:02x?}: {decoded:?}");
         if let Ok(array) = decoded {
             accepted += 1;
             assert_eq!(array.encode(), Ok(bytes), "one array has one byte form");
@@ -198,13 +186,37 @@ fn a_query_may_be_cut_anywhere() {
             continue;
         };
         compared += usize::from(!last.is_empty());
-        assert_eq!(
-            engine.run_trees(&query(&stages), &input, &joined),
-            Ok(last),
-            "{stages:?}"
-        );
+        assert_eq!(engine.run_trees(&query(&stages), &input, &joined), Ok(last), "{stages:?}");
     }
     assert!(compared > 500, "only {compared} had a result to compare");
+}
+
+/// The lines that bear a position.
+fn lines_of(lines: &[Line], position: usize) -> Vec<&Tree> {
+    lines.iter().filter(|line| line.position == position).map(|line| &line.tree).collect()
+}
+
+/// Document 02's locality: a query without a group gives the same lines of a tree that stays, whatever becomes of the
+/// others.
+#[test]
+fn a_job_that_stays_gives_the_same_lines() {
+    let mut draws = Draws(6);
+    let mut work = vec![0; limits::WORK];
+    let mut engine = Engine::new(&mut work);
+    let mut compared = 0;
+    for _ in 0..3_000 {
+        let query: Query = draws.times(1, 4, Draws::stage_but_group).into_iter().collect();
+        let (input, joined) = (draws.times(1, 6, |draws| draws.tree(3)), draws.array(3));
+        let kept = draws.below(input.len());
+        let other = |(at, tree): (usize, &Tree)| if at == kept { tree.clone() } else { draws.tree(3) };
+        let others: Array = input.iter().enumerate().map(other).collect();
+        let Ok(lines) = engine.run_lines(&query, &input.into(), &joined) else { continue };
+        let Ok(of_others) = engine.run_lines(&query, &others, &joined) else { continue };
+        let expected = lines_of(&lines, kept + 1);
+        compared += usize::from(!expected.is_empty() && lines.len() > expected.len());
+        assert_eq!(lines_of(&of_others, kept + 1), expected, "{query:?}");
+    }
+    assert!(compared > 500, "only {compared} had a line to compare, and others");
 }
 
 /// Any bytes may be lent; a run answers by a number of the table.
@@ -212,22 +224,15 @@ fn a_query_may_be_cut_anywhere() {
 fn random_bytes_are_answered() {
     let mut draws = Draws(5);
     let (mut work, mut result) = (vec![0; limits::WORK], vec![0; limits::ARRAY]);
+    let mut positions = vec![0; limits::POSITIONS];
     let mut engine = Engine::new(&mut work);
     for _ in 0..2_000 {
         let mut query = draws.times(0, 40, Draws::byte);
         if draws.below(2) == 0 {
-            query = draws
-                .times(0, 3, Draws::stage)
-                .into_iter()
-                .collect::<Query>()
-                .encode()
-                .unwrap_or(query);
+            query = draws.times(0, 3, Draws::stage).into_iter().collect::<Query>().encode().unwrap_or(query);
         }
-        let (input, joined) = (
-            draws.times(0, 40, Draws::byte),
-            draws.times(0, 40, Draws::byte),
-        );
-        if let Err(refusal) = engine.run(&query, &input, &joined, &mut result) {
+        let (input, joined) = (draws.times(0, 40, Draws::byte), draws.times(0, 40, Draws::byte));
+        if let Err(refusal) = engine.run(&query, &input, &joined, &mut result, &mut positions) {
             assert!(Refusal::ALL.contains(&refusal));
         }
     }
@@ -239,8 +244,5 @@ fn a_query_with_a_mistake_does_not_run() {
     let mut work = vec![0; limits::WORK];
     let wrong = Query::new().project([]);
     let outcome = Engine::new(&mut work).run_trees(&wrong, &Array::new(), &Array::new());
-    assert_eq!(
-        outcome.map_err(|error| matches!(error, Error::Build(_))),
-        Err(true)
-    );
+    assert_eq!(outcome.map_err(|error| matches!(error, Error::Build(_))), Err(true));
 }

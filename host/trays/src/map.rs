@@ -15,9 +15,9 @@ pub fn map(query: &Path, joined: &Path, trays: &[&Path]) -> Result<Vec<u8>, Fail
     let mut engine = Engine::new(&mut work);
     let mut results = Vec::new();
     let mut run = |name: String, tray: Vec<u8>| -> Result<(), Failure> {
-        let mut result = vec![0; limits::ARRAY];
+        let (mut result, mut positions) = (vec![0; limits::ARRAY], vec![0; limits::POSITIONS]);
         let length = engine
-            .run(&query, &tray, &joined, &mut result)
+            .run(&query, &tray, &joined, &mut result, &mut positions)
             .map_err(|refusal| Failure::Refused(name, TrayCause::Run(refusal)))?;
         results.extend_from_slice(&result[..length]);
         Ok(())

@@ -124,6 +124,11 @@ impl<'a> Lists<'a> {
         }
     }
 
+    /// Which of all trees, from 0, is the first of a list.
+    pub fn first(&self, number: usize) -> usize {
+        self.ends[number].0 as usize
+    }
+
     pub fn list(&self, number: usize) -> impl Iterator<Item = &'a [u8]> + '_ {
         let mut place = self.ends[number].0;
         std::iter::from_fn(move || {

@@ -5,22 +5,27 @@ use super::index::{Index, Lists};
 use super::query::{Node, Pair, Query, Stage};
 use super::read::{append, holds};
 use super::write::{place, unwind, write_item, Build};
-use super::Refused;
+use super::{Refused, POSITIONS};
 
-/// What leaves a stretch, one tree behind another. That it is too long is only noted: a later tree may be too
-/// large.
+/// What leaves a stretch, one tree behind another, and where each came from. That it is too long is only noted:
+/// a later tree may be too large.
 struct Sink<'a> {
     out: &'a mut [u8],
     used: usize,
+    /// An entry for each tree: as many as an array can have.
+    positions: &'a mut [u16],
+    trees: usize,
     over: bool,
 }
 
 impl Sink<'_> {
-    fn push(&mut self, tree: &[u8]) {
+    fn push(&mut self, tree: &[u8], position: u16) {
         match self.out.get_mut(self.used..self.used + tree.len()) {
             Some(room) => {
                 room.copy_from_slice(tree);
                 self.used += tree.len();
+                self.positions[self.trees] = position;
+                self.trees += 1;
             }
             None => self.over = true,
         }
@@ -77,35 +82,36 @@ impl<'s, 'a> Stretch<'s, 'a> {
         Stretch { stages, rooms, read }
     }
 
-    fn feed(&mut self, tree: &[u8], sink: &mut Sink) -> Result<(), Refused> {
-        feed(self.stages, &mut self.rooms, self.read, tree, sink)
+    fn feed(&mut self, tree: &[u8], position: u16, sink: &mut Sink) -> Result<(), Refused> {
+        feed(self.stages, &mut self.rooms, self.read, tree, position, sink)
     }
 }
 
-/// One tree through the stages: what leaves the last of them goes into the sink.
+/// One tree through the stages: what leaves the last of them goes into the sink, with the tree's position.
 fn feed<'a>(
     stages: &[Stage],
     rooms: &mut [Room<'a>],
     read: Read<'_, 'a>,
     tree: &[u8],
+    position: u16,
     sink: &mut Sink,
 ) -> Result<(), Refused> {
     let ([stage, stages @ ..], [room, rooms @ ..]) = (stages, rooms) else {
-        sink.push(tree);
+        sink.push(tree, position);
         return Ok(());
     };
     match stage {
-        Stage::Match(c) if holds(&read.nodes[*c..], tree) => feed(stages, rooms, read, tree, sink),
+        Stage::Match(c) if holds(&read.nodes[*c..], tree) => feed(stages, rooms, read, tree, position, sink),
         Stage::Match(_) => Ok(()),
         Stage::Unwind(path) => {
-            unwind(path, tree, room.build.scratch(), &mut |t| feed(stages, rooms, read, t, sink))
+            unwind(path, tree, room.build.scratch(), &mut |t| feed(stages, rooms, read, t, position, sink))
         }
         Stage::Project(items) => {
             room.build.start(&VOID);
             for item in items {
                 room.build.add(|out| write_item(read.nodes, item, tree, out))?;
             }
-            feed(stages, rooms, read, room.build.tree(), sink)
+            feed(stages, rooms, read, room.build.tree(), position, sink)
         }
         Stage::Lookup { tree: path, joined: other, target } => {
             let partners = room.partners.get_or_insert_with(|| Partners::new(other, read.joined));
@@ -116,7 +122,7 @@ fn feed<'a>(
                     true
                 })
             })?;
-            feed(stages, rooms, read, room.build.tree(), sink)
+            feed(stages, rooms, read, room.build.tree(), position, sink)
         }
         // a stretch ends before a group
         Stage::Group { .. } => Ok(()),
@@ -139,15 +145,16 @@ fn classes<'a>(grouping: &[Pair], array: &'a [u8]) -> (Vec<(usize, usize)>, List
     (found, lists)
 }
 
-/// Groups the trees of an array and feeds what that gives to the stretch behind the group.
+/// Groups the trees of an array and feeds what that gives to the stretch behind the group, each with the position
+/// of the first member.
 fn group(
     aggregates: &[Pair],
     grouping: &[Pair],
-    array: &[u8],
+    array: Entering,
     stretch: &mut Stretch,
     sink: &mut Sink,
 ) -> Result<(), Refused> {
-    let (found, lists) = classes(grouping, array);
+    let (found, lists) = classes(grouping, array.trees);
     let mut build = Build::new();
     for (_, number) in found {
         build.start(&VOID);
@@ -162,19 +169,32 @@ fn group(
             // a source outside the subset is absent, and places nothing
             build.add(|out| place(pair.target, out, |out| append(pair.source, first, out)))?;
         }
-        stretch.feed(build.tree(), sink)?;
+        stretch.feed(build.tree(), array.position(lists.first(number)), sink)?;
     }
     Ok(())
 }
 
-/// Performs a stretch over an array's trees, into `out`: how many bytes of it they take, if it holds them.
-fn perform(stages: &[Stage], array: &[u8], read: Read, out: &mut [u8]) -> Result<Option<usize>, Refused> {
-    let mut sink = Sink { out, used: 0, over: false };
+/// The trees that enter a stretch, and the position of each; of the input's trees it is their own.
+#[derive(Clone, Copy)]
+struct Entering<'a> {
+    trees: &'a [u8],
+    positions: Option<&'a [u16]>,
+}
+
+impl Entering<'_> {
+    fn position(&self, place: usize) -> u16 {
+        self.positions.map_or(place as u16 + 1, |positions| positions[place])
+    }
+}
+
+/// Performs a stretch over an array's trees, into the sink: how many bytes they take, if it holds them.
+fn perform(stages: &[Stage], array: Entering, read: Read, mut sink: Sink) -> Result<Option<usize>, Refused> {
     if let [Stage::Group { aggregates, grouping }, stages @ ..] = stages {
         group(aggregates, grouping, array, &mut Stretch::new(stages, read), &mut sink)?;
     } else {
         let mut stretch = Stretch::new(stages, read);
-        trees(array).try_for_each(|t| stretch.feed(t, &mut sink))?;
+        let mut each = trees(array.trees).enumerate();
+        each.try_for_each(|(place, t)| stretch.feed(t, array.position(place), &mut sink))?;
     }
     Ok((!sink.over).then_some(sink.used))
 }
@@ -185,22 +205,43 @@ fn stretch_end(stages: &[Stage]) -> usize {
     group.map_or(stages.len(), |at| at + 1)
 }
 
-/// Runs the query over the input's trees and writes what it gives to `out`: how many bytes of it that takes.
-pub fn run(query: &Query, input: &[u8], joined: &[u8], out: &mut [u8]) -> Result<usize, Refused> {
+/// An array between two stretches, and the positions of its trees.
+#[derive(Default)]
+struct Between {
+    bytes: Vec<u8>,
+    positions: Vec<u16>,
+}
+
+/// Runs the query over the input's trees and writes what it gives to `out`, and where its trees came from to
+/// `positions`: how many bytes of `out` that takes.
+pub fn run(
+    query: &Query,
+    input: &[u8],
+    joined: &[u8],
+    out: &mut [u8],
+    positions: &mut [u16],
+) -> Result<usize, Refused> {
     let read = Read { nodes: &query.nodes, joined };
     let mut stages = &query.stages[..];
     // the array that enters a group, and the one that leaves its stretch; the input enters from where it
     // stands
-    let (mut array, mut next): (Vec<u8>, Vec<u8>) = (Vec::new(), Vec::new());
+    let (mut array, mut next) = (Between::default(), Between::default());
     let mut entering = None;
     loop {
         let (stretch, later) = stages.split_at(stretch_end(stages));
-        let trees = entering.map_or(input, |n| &array[..n]);
+        let trees = match entering {
+            None => Entering { trees: input, positions: None },
+            Some(n) => Entering { trees: &array.bytes[..n], positions: Some(&array.positions) },
+        };
         if later.is_empty() {
-            return perform(stretch, trees, read, out)?.ok_or(10);
+            let sink = Sink { out, used: 0, positions, trees: 0, over: false };
+            return perform(stretch, trees, read, sink)?.ok_or(10);
         }
-        next.resize(ARRAY - 3, 0);
-        let used = perform(stretch, trees, read, &mut next)?.ok_or(9u32)?;
+        next.bytes.resize(ARRAY - 3, 0);
+        next.positions.resize(POSITIONS, 0);
+        let Between { bytes, positions } = &mut next;
+        let sink = Sink { out: bytes, used: 0, positions, trees: 0, over: false };
+        let used = perform(stretch, trees, read, sink)?.ok_or(9u32)?;
         std::mem::swap(&mut array, &mut next);
         entering = Some(used);
         stages = later;

@@ -10,26 +10,35 @@
 //! | query length, query | 2, that many |
 //! | first length, first array (of a run the input) | 2, that many |
 //! | second length, second array (of a run the joined array) | 2, that many |
-//! | work area length; for a regrouping 8,388,608 more, the first bit | 3 |
+//! | work area length; for a run 4,194,304 more, the second bit; for a regrouping 8,388,608 more, the first bit | 3 |
 //! | result area length | 2 |
+//! | of a run: position area length, in entries | 2 |
 //! | number | 1 |
 //! | result length, result | 2, that many |
+//! | of a run: the length of the positions in bytes, the positions in two bytes each | 2, that many |
 //!
-//! Before a case the work area is filled with 170 and the result area with
-//! 187. The first records of each call are the same for every seed: one for
-//! each number, and for each array that can give it.
+//! A run without the second bit, as in a corpus from before there were
+//! positions, has no such lengths and no positions: its position area has
+//! 2,730 entries, and what it holds after acceptance is not stated.
+//!
+//! Before a case the work area is filled with 170, the result area with 187
+//! and the position area with 43,690. The first records of each call are the
+//! same for every seed: one for each number, and for each array that can give
+//! it.
 
 use reference::bytes::{encode_array, encode_query};
 use reference::generate::{Case, Cases, RegroupCase, RegroupCases};
 use reference::regroup::decide_regroup;
-use reference::run::{decide, Verdict, WORK_LEAST};
+use reference::run::{decide, Lengths, Verdict, POSITIONS_LEAST, WORK_LEAST};
 use reference::stages::{Data, Item, Pair, Stage};
 use reference::tree::{Tree, ARRAY_LIMIT};
 use std::io::{self, BufWriter, Write};
 use std::process::ExitCode;
 
-/// What a regrouping adds to the length of its work area.
+/// What a regrouping adds to the length of its work area, and what a run adds
+/// whose positions are stated.
 const REGROUPS: usize = 1 << 23;
+const WITH_POSITIONS: usize = 1 << 22;
 
 /// A record above this many bytes is large. Cases near a limit are, and would
 /// be most of the file.
@@ -43,7 +52,7 @@ struct Large {
     numbers: &'static [Option<u8>],
 }
 
-const LARGE_RUNS: Large = Large { every: 80, numbers: &[Some(2), None, Some(4), None, Some(6)] };
+const LARGE_RUNS: Large = Large { every: 80, numbers: &[Some(2), None, Some(4), Some(0), Some(6)] };
 
 const LARGE_REGROUPS: Large =
     Large { every: 25, numbers: &[Some(8), None, Some(2), Some(8), Some(9), Some(0), Some(4)] };
@@ -77,12 +86,12 @@ fn write_corpus(runs: usize, regroups: usize, seed: u64) -> io::Result<()> {
 }
 
 fn write_records(out: &mut impl Write, records: impl Iterator<Item = Record>) -> io::Result<()> {
-    let mut numbers = [0; 11];
+    let mut numbers = [0; 12];
     for record in records {
         numbers[usize::from(record.number)] += 1;
         out.write_all(&record.bytes)?;
     }
-    eprintln!("numbers 0 to 10: {numbers:?}");
+    eprintln!("numbers 0 to 11: {numbers:?}");
     Ok(())
 }
 
@@ -111,30 +120,42 @@ struct Record {
 
 impl From<(Case, Verdict)> for Record {
     fn from((case, verdict): (Case, Verdict)) -> Record {
-        record([&case.query, &case.input, &case.joined], case.work_length, case.result_length, &verdict)
+        let mut bytes = read_areas([&case.query, &case.input, &case.joined]);
+        push_number(&mut bytes, WITH_POSITIONS + case.work_length, 3);
+        push_number(&mut bytes, case.result_length, 2);
+        push_number(&mut bytes, case.positions_length, 2);
+        push_result(&mut bytes, &verdict);
+        push_part(&mut bytes, &verdict.positions().iter().flat_map(|p| p.to_be_bytes()).collect::<Vec<u8>>());
+        Record { bytes, number: verdict.number() }
     }
 }
 
 impl From<(RegroupCase, Verdict)> for Record {
     fn from((case, verdict): (RegroupCase, Verdict)) -> Record {
-        let marked = REGROUPS + case.work_length;
-        record([&case.query, &case.first, &case.second], marked, case.result_length, &verdict)
+        let mut bytes = read_areas([&case.query, &case.first, &case.second]);
+        push_number(&mut bytes, REGROUPS + case.work_length, 3);
+        push_number(&mut bytes, case.result_length, 2);
+        push_result(&mut bytes, &verdict);
+        Record { bytes, number: verdict.number() }
     }
 }
 
-/// A record; the length of the work area has the mark of its call.
-fn record(read: [&[u8]; 3], work_length: usize, result_length: usize, verdict: &Verdict) -> Record {
-    let mut bytes = Vec::new();
-    for area in read {
-        push_number(&mut bytes, area.len(), 2);
-        bytes.extend(area);
-    }
-    push_number(&mut bytes, work_length, 3);
-    push_number(&mut bytes, result_length, 2);
-    bytes.push(verdict.number());
-    push_number(&mut bytes, verdict.bytes().len(), 2);
-    bytes.extend(verdict.bytes());
-    Record { bytes, number: verdict.number() }
+/// The beginning of a record: the areas that are only read.
+fn read_areas(areas: [&[u8]; 3]) -> Vec<u8> {
+    let mut record = Vec::new();
+    areas.into_iter().for_each(|area| push_part(&mut record, area));
+    record
+}
+
+fn push_result(record: &mut Vec<u8>, verdict: &Verdict) {
+    record.push(verdict.number());
+    push_part(record, verdict.bytes());
+}
+
+/// Bytes with their length before them.
+fn push_part(record: &mut Vec<u8>, part: &[u8]) {
+    push_number(record, part.len(), 2);
+    record.extend(part);
 }
 
 /// A number in some bytes, high byte first.
@@ -153,8 +174,9 @@ static LONG: [u8; ARRAY_LIMIT + 1] = [0; ARRAY_LIMIT + 1];
 /// An array of no trees.
 const EMPTY: [u8; 3] = [1, 0, 0];
 
-/// One run for each number from 0 to 10, in order; each of 1 to 7 has the
-/// faults of the greater numbers too, as far as they can stand together.
+/// One run for each number, 0 and then the refusals in the order of the tests;
+/// each of 1, 11 and 2 to 7 has the faults that are tested later too, as far as
+/// they can stand together.
 fn first_runs() -> Vec<Record> {
     let (grown, voids) = growing();
     let unwinds = query(&grown);
@@ -162,27 +184,34 @@ fn first_runs() -> Vec<Record> {
     let large = Item::Place(Data::Literal(vec![Tree::void(); 400]), vec![1]);
     let with_large = query(&[&grown[..], &[Stage::Project(vec![large])]].concat());
     vec![
-        run(0, [&[16, 0, 0], &EMPTY, &EMPTY], WORK_LEAST, 5),
-        run(1, [&LONG_QUERY, &BAD, &BAD], WORK_LEAST - 1, 5),
-        run(2, [&LONG_QUERY, &BAD, &BAD], WORK_LEAST, 5),
-        run(3, [&BAD, &BAD, &BAD], WORK_LEAST, 5),
-        run(4, [&unwinds, &LONG, &BAD], WORK_LEAST, 5),
-        run(5, [&unwinds, &BAD, &BAD], WORK_LEAST, 5),
-        run(6, [&unwinds, &voids, &LONG], WORK_LEAST, 5),
-        run(7, [&unwinds, &voids, &BAD], WORK_LEAST, 5),
-        run(8, [&with_large, &voids, &EMPTY], WORK_LEAST, 5),
-        run(9, [&with_group, &voids, &EMPTY], WORK_LEAST, 5),
-        run(10, [&unwinds, &voids, &EMPTY], WORK_LEAST, ARRAY_LIMIT),
+        run(0, [&[16, 0, 0], &EMPTY, &EMPTY], LEAST),
+        run(1, [&LONG_QUERY, &BAD, &BAD], Lengths { work: WORK_LEAST - 1, ..FEW }),
+        run(11, [&LONG_QUERY, &BAD, &BAD], FEW),
+        run(2, [&LONG_QUERY, &BAD, &BAD], LEAST),
+        run(3, [&BAD, &BAD, &BAD], LEAST),
+        run(4, [&unwinds, &LONG, &BAD], LEAST),
+        run(5, [&unwinds, &BAD, &BAD], LEAST),
+        run(6, [&unwinds, &voids, &LONG], LEAST),
+        run(7, [&unwinds, &voids, &BAD], LEAST),
+        run(8, [&with_large, &voids, &EMPTY], LEAST),
+        run(9, [&with_group, &voids, &EMPTY], LEAST),
+        run(10, [&unwinds, &voids, &EMPTY], Lengths { result: ARRAY_LIMIT, ..LEAST }),
     ]
 }
 
+/// Areas that are just long enough for a run of which 5 bytes hold the result;
+/// and a position area that is not.
+const LEAST: Lengths = Lengths { work: WORK_LEAST, result: 5, positions: POSITIONS_LEAST };
+const FEW: Lengths = Lengths { positions: POSITIONS_LEAST - 1, ..LEAST };
+
 /// A run, which is to have a number.
-fn run(number: u8, read: [&[u8]; 3], work_length: usize, result_length: usize) -> Record {
+fn run(number: u8, read: [&[u8]; 3], lengths: Lengths) -> Record {
     let [query, input, joined] = read.map(<[u8]>::to_vec);
-    let verdict = decide(&query, &input, &joined, work_length, result_length, usize::MAX);
+    let verdict = decide(&query, &input, &joined, lengths, usize::MAX);
     let verdict = verdict.expect("a list has no limit of its own");
     assert_eq!(verdict.number(), number, "a first case has the number it stands for");
-    Record::from((Case { query, input, joined, work_length, result_length }, verdict))
+    let Lengths { work: work_length, result: result_length, positions: positions_length } = lengths;
+    Record::from((Case { query, input, joined, work_length, result_length, positions_length }, verdict))
 }
 
 /// One regrouping for each number, in the order of the tests; each has the
@@ -242,14 +271,23 @@ mod tests {
 
     #[test]
     fn the_first_cases_have_their_numbers() {
-        assert_eq!(first_runs().len(), 11);
+        assert_eq!(first_runs().len(), 12);
         assert_eq!(first_regroups().len(), 13);
     }
 
     #[test]
     fn a_run_by_its_bytes() {
-        let expected = [0, 3, 16, 0, 0, 0, 3, 1, 0, 0, 0, 3, 1, 0, 0, 1, 0, 0, 0, 5, 0, 0, 3, 1, 0, 0];
+        let read = [0, 3, 16, 0, 0, 0, 3, 1, 0, 0, 0, 3, 1, 0, 0];
+        let lengths = [65, 0, 0, 0, 5, 10, 170];
+        let expected = [&read[..], &lengths, &[0, 0, 3, 1, 0, 0, 0, 0]].concat();
         assert_eq!(first_runs()[0].bytes, expected);
+    }
+
+    #[test]
+    fn positions_stand_at_the_end() {
+        let two = array(&[Tree::void(), Tree::void()]);
+        let bytes = run(0, [&[16, 0, 0], &two, &EMPTY], Lengths { result: 15, ..LEAST }).bytes;
+        assert!(bytes.ends_with(&[&[0, 0, 15][..], &two, &[0, 4, 0, 1, 0, 2]].concat()));
     }
 
     #[test]

@@ -8,6 +8,7 @@
 
 use reference::bytes::{fields, QUERY_LIMIT};
 use reference::generate::{Case, Cases, RegroupCase, RegroupCases};
+use reference::run::POSITIONS_LEAST;
 use reference::tree::{ARRAY_LIMIT, HEAD};
 use std::path::Path;
 use std::process::ExitCode;
@@ -33,6 +34,11 @@ const RESULT_LONGEST: usize = 16_400;
 
 /// The work area's length by the low bits of the first byte, the first of its kind.
 const WORK_LENGTHS: [(usize, u8); 5] = [(65_536, 0), (65_537, 4), (70_000, 5), (65_535, 6), (0, 7)];
+
+/// The position area's length, in entries, by the high bits of the fourth byte;
+/// and the choice of one that is too short, of which bytes 1 and 2 say how long.
+const POSITIONS_LENGTHS: [(usize, u8); 3] = [(POSITIONS_LEAST, 0), (2_731, 1), (20_000, 2)];
+const SHORT_POSITIONS: u8 = 3;
 
 fn main() -> ExitCode {
     let words: Vec<String> = std::env::args().skip(1).collect();
@@ -62,21 +68,23 @@ struct Areas<'a> {
     read: [&'a [u8]; 3],
     work_length: usize,
     result_length: usize,
+    positions_length: usize,
 }
 
 impl<'a> From<&'a Case> for Areas<'a> {
     fn from(case: &'a Case) -> Areas<'a> {
-        let Case { query, input, joined, work_length, result_length } = case;
+        let Case { query, input, joined, work_length, result_length, positions_length } = case;
         let (work_length, result_length) = (*work_length, *result_length);
-        Areas { call: 0, read: [query, input, joined], work_length, result_length }
+        let positions_length = *positions_length;
+        Areas { call: 0, read: [query, input, joined], work_length, result_length, positions_length }
     }
 }
 
 impl<'a> From<&'a RegroupCase> for Areas<'a> {
     fn from(case: &'a RegroupCase) -> Areas<'a> {
         let RegroupCase { query, first, second, work_length, result_length } = case;
-        let (work_length, result_length) = (*work_length, *result_length);
-        Areas { call: REGROUPS, read: [query, first, second], work_length, result_length }
+        let (work_length, result_length, positions_length) = (*work_length, *result_length, POSITIONS_LEAST);
+        Areas { call: REGROUPS, read: [query, first, second], work_length, result_length, positions_length }
     }
 }
 
@@ -101,10 +109,14 @@ fn data<'a>(case: impl Into<Areas<'a>>) -> Option<Vec<u8>> {
     let areas = [shortened(query, QUERY_LIMIT), shortened(one, ARRAY_LIMIT), shortened(other, ARRAY_LIMIT)];
     // a head that spans what is repeated
     let heads = areas.iter().zip(3..).map(|((_, choice), bit)| u8::from(*choice == REPEATED) << bit);
-    let first = work_choice(case.work_length) | u8::from(whole_result) << 6 | case.call;
+    let first =
+        nearest(&WORK_LENGTHS, case.work_length).unwrap_or(0) | u8::from(whole_result) << 6 | case.call;
     let mut bytes = vec![heads.fold(first, |all, head| all | head)];
-    bytes.extend(u16::try_from(case.result_length).ok()?.to_be_bytes());
-    bytes.push(areas[0].1 | areas[1].1 << 2 | areas[2].1 << 4);
+    let entries = nearest(&POSITIONS_LENGTHS, case.positions_length).unwrap_or(SHORT_POSITIONS);
+    let short = entries == SHORT_POSITIONS && whole_result;
+    let length = if short { case.positions_length } else { case.result_length };
+    bytes.extend(u16::try_from(length).ok()?.to_be_bytes());
+    bytes.push(areas[0].1 | areas[1].1 << 2 | areas[2].1 << 4 | entries << 6);
     bytes.extend(u16::try_from(areas[0].0.len()).ok()?.to_be_bytes());
     bytes.extend(u16::try_from(areas[1].0.len()).ok()?.to_be_bytes());
     areas.iter().for_each(|(area, _)| bytes.extend(*area));
@@ -134,11 +146,11 @@ fn first_trees(array: &[u8]) -> Option<&[u8]> {
     array.get(..*last)
 }
 
-/// The choice of the nearest work area that is no longer than a length, so
-/// that a short one stays short.
-fn work_choice(length: usize) -> u8 {
-    let nearest = WORK_LENGTHS.iter().filter(|(choice, _)| *choice <= length).max();
-    nearest.map_or(0, |(_, choice)| *choice)
+/// The choice of the longest area that is no longer than a length, so that a
+/// short one stays short.
+fn nearest(lengths: &[(usize, u8)], length: usize) -> Option<u8> {
+    let nearest = lengths.iter().filter(|(choice, _)| *choice <= length).max();
+    nearest.map(|(_, choice)| *choice)
 }
 
 #[cfg(test)]
@@ -146,8 +158,8 @@ mod tests {
     use super::*;
 
     fn case(work_length: usize, result_length: usize) -> Case {
-        let (query, array) = (vec![16, 0, 0], vec![1, 0, 0]);
-        Case { query, input: array.clone(), joined: array, work_length, result_length }
+        let (query, array, positions_length) = (vec![16, 0, 0], vec![1, 0, 0], POSITIONS_LEAST);
+        Case { query, input: array.clone(), joined: array, work_length, result_length, positions_length }
     }
 
     #[test]
@@ -158,8 +170,21 @@ mod tests {
     }
 
     #[test]
+    fn a_short_position_area_has_its_length_or_another_short_one() {
+        let head = |result_length, positions_length| {
+            let case = Case { positions_length, ..case(65_536, result_length) };
+            data(&case).unwrap()[..4].to_vec()
+        };
+        assert_eq!(head(ARRAY_LIMIT, 2_729), [64, 10, 169, SHORT_POSITIONS << 6]);
+        assert_eq!(head(7, 2_729), [0, 0, 7, SHORT_POSITIONS << 6]);
+        assert_eq!(head(7, 2_730), [0, 0, 7, 0]);
+        assert_eq!(head(7, 4_001), [0, 0, 7, 1 << 6]);
+        assert_eq!(head(7, 20_000), [0, 0, 7, 2 << 6]);
+    }
+
+    #[test]
     fn a_regrouping_by_its_bytes() {
-        let Case { query, input: first, joined: second, work_length, result_length } = case(65_536, 7);
+        let Case { query, input: first, joined: second, work_length, result_length, .. } = case(65_536, 7);
         let regroup = RegroupCase { query, first, second, work_length, result_length };
         let expected = [128, 0, 7, 0, 0, 3, 0, 3, 16, 0, 0, 1, 0, 0, 1, 0, 0];
         assert_eq!(data(&regroup).unwrap(), expected);
@@ -198,7 +223,7 @@ mod tests {
     fn a_work_area_has_the_nearest_choice() {
         let choices = [(0, 7), (65_534, 7), (65_535, 6), (65_536, 0), (65_537, 4), (69_999, 4), (70_000, 5)];
         for (length, choice) in choices {
-            assert_eq!(work_choice(length), choice);
+            assert_eq!(nearest(&WORK_LENGTHS, length), Some(choice));
         }
     }
 }

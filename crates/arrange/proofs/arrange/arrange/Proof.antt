@@ -4,8 +4,8 @@ use lib.ListN.{length}
 use mathlib.Core.Path.{_≡_, refl, sym, subst, _∙_}
 use mathlib.Core.List.{List}
 use Prim.Native.Nat.{_-_, _^_, _≤_}
-use Rattle.spec_trees.specs.Tree.{Tree}
 use Rattle.spec_queries.specs.Query.{Pair}
+use Rattle.spec_stages.specs.Positions.{Borne, unmarked, origin}
 use Rattle.arrange.specs.Arrange.{arranged, Grows}
 use Rattle.arrange.specs.ArrangeLaws as law
 use Rattle.arrange.proofs.arrange.arrange.Statement.{statement}
@@ -19,8 +19,9 @@ use Rattle.group.proofs.key.subsets.Reads as subsets-reads
 abbrev Inv-loop : tie.InvT-loop
 Inv-loop work₀ query len total filled₀ k₀ work filled k =
     (length work ≡ length work₀) × (k ≤ total)
-    × ((gs : List Pair) (ts : List Tree) → law.Entered work₀ len gs ts → total ≡ 2 ^ length gs →
-    Grows work₀ work law.empty filled (arranged (law.found gs ts k)))
+    × ((gs : List Pair) (bs : List Borne) → law.Entered work₀ len gs bs → total ≡ 2 ^ length gs
+    → Grows work₀ work law.empty filled
+    (arranged (λ t. origin gs t bs) (law.found gs (unmarked bs) k)))
 
 abbrev μ-loop : tie.MeasureT-loop
 μ-loop work₀ query len total filled₀ k₀ work filled k = total - k
@@ -39,7 +40,7 @@ subsets-requires c κs =
     }
 
 loop-holds : tie.Need-loop-holds Inv-loop μ-loop
-loop-holds c = (refl, omega arith, λ gs ts e z. law.arranging-begin e)
+loop-holds c = (refl, omega arith, λ gs bs e z. law.arranging-begin e)
 
 arrange-subset-requires : tie.Need-arrange-subset-requires Inv-loop μ-loop
 arrange-subset-requires c κs =
@@ -50,7 +51,7 @@ arrange-subset-requires c κs =
     (c .before .before .loop .k)
     (c .before .before .loop .inv .2
     (c .before .before .before .before .before .before .before .before .before .before .pre .grouping)
-    (c .before .before .before .before .before .before .before .before .before .before .pre .trees)
+    (c .before .before .before .before .before .before .before .before .before .before .pre .borne)
     (law.entered (c .before .before .before .before .before .before .enter-all .kept .0)
     (c .before .before .before .before .before .before .enter-all .ensures)
     (c .before .before .before .before .before .before .before .before .before .before .pre))
@@ -91,8 +92,8 @@ loop-again c = (
     c .before .before .before .before .before .loop .inv .1,
     c .before .before .before .before .loop-test .taken,
   ),
-  λ gs ts e z. law.arranging-next e (c .before .before .before .before .before .loop .k)
-      (c .before .before .before .before .before .loop .inv .2 gs ts e z)
+  λ gs bs e z. law.arranging-next e (c .before .before .before .before .before .loop .k)
+      (c .before .before .before .before .before .loop .inv .2 gs bs e z)
       (omega (
         arith,
         z,
@@ -113,7 +114,7 @@ returns c =
     (c .before .before .before .before .before .enter-all .ensures) d in
     let z = c .before .before .subsets .ensures (d .grouping) (d .grouping-is) in
     law.arranging-end e (c .before .loop .k)
-    (c .before .loop .inv .2 (d .grouping) (d .trees) e z) (c .loop-test .left ∙ z)
+    (c .before .loop .inv .2 (d .grouping) (d .borne) e z) (c .loop-test .left ∙ z)
 
 pub arrange-spec : {M : Type 1} → statement M
 arrange-spec =

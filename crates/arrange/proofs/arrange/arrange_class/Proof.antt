@@ -13,6 +13,7 @@ use Rattle.arrange.proofs.arrange.arrange_class.Lts as lts
 use Rattle.areas.proofs.area.field_end.Reads as field-end-reads
 use Rattle.areas.proofs.number.two_at.Reads as two-at-reads
 use Rattle.arrange.proofs.arrange.place.Reads as place-reads
+use Rattle.positions.proofs.bear.position_at.Reads as position-at-reads
 
 abbrev Inv-loop : tie.InvT-loop
 Inv-loop work₀ first so-far₀ number₀ at₀ work so-far number at =
@@ -22,39 +23,50 @@ Inv-loop work₀ first so-far₀ number₀ at₀ work so-far number at =
 abbrev μ-loop : tie.MeasureT-loop
 μ-loop work₀ first so-far₀ number₀ at₀ work so-far number at = arrayMax - so-far .to
 
+sub-position-at : tie.Need-sub-position-at Inv-loop μ-loop
+sub-position-at c = omega (arith, law.first-places (c .before .before .pre))
+
+position-at-requires : tie.Need-position-at-requires Inv-loop μ-loop
+position-at-requires c κs = (
+  law.first-places (c .before .before .pre) .2,
+  omega
+      (arith, law.first-places (c .before .before .pre)),
+)
+
 loop-holds : tie.Need-loop-holds Inv-loop μ-loop
-loop-holds c = (refl, λ l. law.copying-begin l)
+loop-holds c =
+    (refl, λ l. law.copying-begin l (c .position-at .ensures .0) (c .position-at .ensures .1))
 
 field-end-requires : tie.Need-field-end-requires Inv-loop μ-loop
 field-end-requires c κs =
     omega (
       arith,
-      law.copying-places (c .before .before .before .before .pre)
-          (c .before .before .loop .inv .1 (c .before .before .before .before .pre))
+      law.copying-places (c .before .before .before .before .before .before .pre)
+          (c .before .before .loop .inv .1 (c .before .before .before .before .before .before .pre))
           (c .before .loop-test .taken),
     )
 
 place-requires : tie.Need-place-requires Inv-loop μ-loop
 place-requires c κs =
     rw (c .before .field-end .ensures) (
-      law.copying-room (c .before .before .before .before .before .before .pre)
+      law.copying-room (c .before .before .before .before .before .before .before .before .pre)
           (c .before .before .before .before .loop .inv .1
-          (c .before .before .before .before .before .before .pre))
+          (c .before .before .before .before .before .before .before .before .pre))
           (c .before .before .before .loop-test .taken),
       law.copying-tree
-          (c .before .before .before .before .before .before .pre)
+          (c .before .before .before .before .before .before .before .before .pre)
           (c .before .before .before .before .loop .inv .1
-          (c .before .before .before .before .before .before .pre))
+          (c .before .before .before .before .before .before .before .before .pre))
           (c .before .before .before .loop-test .taken),
       law.copying-places
-          (c .before .before .before .before .before .before .pre)
+          (c .before .before .before .before .before .before .before .before .pre)
           (c .before .before .before .before .loop .inv .1
-          (c .before .before .before .before .before .before .pre))
+          (c .before .before .before .before .before .before .before .before .pre))
           (c .before .before .before .loop-test .taken) .0,
       omega (
         arith,
         c .before .before .before .before .loop .inv .1
-            (c .before .before .before .before .before .before .pre) .small,
+            (c .before .before .before .before .before .before .before .before .pre) .small,
       ),
     )
 
@@ -63,9 +75,9 @@ sub-two-at c =
     omega (
       arith,
       law.copying-places
-          (c .before .before .before .before .before .before .before .before .before .before .pre)
+          (c .before .before .before .before .before .before .before .before .before .before .before .before .pre)
           (c .before .before .before .before .before .before .before .before .loop .inv .1
-          (c .before .before .before .before .before .before .before .before .before .before .pre))
+          (c .before .before .before .before .before .before .before .before .before .before .before .before .pre))
           (c .before .before .before .before .before .before .before .loop-test .taken),
     )
 
@@ -74,9 +86,9 @@ two-at-requires c κs =
     omega (
       arith,
       law.copying-places
-          (c .before .before .before .before .before .before .before .before .before .before .pre)
+          (c .before .before .before .before .before .before .before .before .before .before .before .before .pre)
           (c .before .before .before .before .before .before .before .before .loop .inv .1
-          (c .before .before .before .before .before .before .before .before .before .before .pre))
+          (c .before .before .before .before .before .before .before .before .before .before .before .before .pre))
           (c .before .before .before .before .before .before .before .loop-test .taken),
       c .before .before .before .place .kept .0,
     )
@@ -86,15 +98,15 @@ loop-less c =
     omega (
       arith,
       law.copying-places
-          (c .before .before .before .before .before .before .before .before .before .before .before .pre)
+          (c .before .before .before .before .before .before .before .before .before .before .before .before .before .pre)
           (c .before .before .before .before .before .before .before .before .before .loop .inv .1
-          (c .before .before .before .before .before .before .before .before .before .before .before .pre))
+          (c .before .before .before .before .before .before .before .before .before .before .before .before .before .pre))
           (c .before .before .before .before .before .before .before .before .loop-test .taken),
       c .before .before .before .before .before .before .field-end .ensures,
       law.grown
-          (c .before .before .before .before .before .before .before .before .before .before .before .pre)
+          (c .before .before .before .before .before .before .before .before .before .before .before .before .before .pre)
           (c .before .before .before .before .before .before .before .before .before .loop .inv .1
-          (c .before .before .before .before .before .before .before .before .before .before .before .pre))
+          (c .before .before .before .before .before .before .before .before .before .before .before .before .before .pre))
           (c .before .before .before .before .before .before .before .before .loop-test .taken)
           (c .before .before .before .before .before .before .field-end .ensures)
           (c .before .before .before .before .place .ensures),
@@ -123,6 +135,8 @@ arrange-class-spec =
     (tie.spec
     Inv-loop
     μ-loop
+    sub-position-at
+    position-at-requires
     loop-holds
     field-end-requires
     place-requires

@@ -16,8 +16,11 @@ same-length c = search needs
 same-length-2 : tie.Need-same-length-2
 same-length-2 c = search needs
 
+same-length-3 : tie.Need-same-length-3
+same-length-3 c = search needs
+
 returns : tie.Need-returns
-returns c = alone-gives (c .before .before .before .before .run .ensures)
+returns c = alone-gives (c .before .before .before .before .before .before .run .ensures)
 
 pub alone-spec : {M : Type 1} → statement M
-alone-spec = tie.close (tie.spec run-requires same-length same-length-2 returns)
+alone-spec = tie.close (tie.spec run-requires same-length same-length-2 same-length-3 returns)

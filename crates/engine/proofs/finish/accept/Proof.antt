@@ -4,7 +4,7 @@ use native.Mathlib.Omega.{arith}
 use lib.ListN.{take}
 use lib.Seq.{length-take-le}
 use Prim.Native.Nat.{_+_}
-use Rattle.engine.specs.FinishLaws.{failed-room, accepted-room, accept-array}
+use Rattle.engine.specs.FinishLaws.{failed-room, held-length, accepted-room, accept-lengths}
 use borrow.Author.Needs.{needs}
 use Rattle.engine.proofs.finish.accept.Statement.{statement}
 use Rattle.engine.proofs.finish.accept.Tie as tie
@@ -24,15 +24,10 @@ same-length c = search needs
 
 returns : tie.Need-returns
 returns c =
-    failed-room (c .before .before .before .before .before .before .before .args .result .now)
-    (c .before .before .fail .ensures)
-    (c .before .before .before .before .before .before .before .args .work .now)
-    (c .before .before .before .before .before .before .before .args .len) refl
+    λ ts h ps. failed-room (c .before .before .before .before .before .before .before .args .result .now)
+    (c .before .before .fail .ensures) ps refl
     (c .before .before .before .before .before .before .before .pre .short)
-    (c .before .before .before .before .if1 .taken)
-
-sub-from : tie.Need-sub-from
-sub-from c = search needs
+    (c .before .before .before .before .if1 .taken) ts (held-length h)
 
 add-write-array : tie.Need-add-write-array
 add-write-array c = search needs
@@ -59,15 +54,15 @@ part-write-array-end c = search needs
 
 write-array-requires : tie.Need-write-array-requires
 write-array-requires c κs =
-    accept-array _ (take (c .before .before .before .before .before .args .len + 3)
-    (c .before .before .before .before .before .args .result .now)) refl
+    accept-lengths (take (c .before .before .before .before .before .args .len + 3)
+    (c .before .before .before .before .before .args .result .now))
     (c .before .before .before .before .before .pre)
     (length-take-le (c .before .before .before .before .before .args .len + 3)
     (c .before .before .before .before .before .args .result .now)
     (omega (arith, c .before .before .if1 .left)))
 
-add-t6 : tie.Need-add-t6
-add-t6 c = search needs
+add-t5 : tie.Need-add-t5
+add-t5 c = search needs
 
 same-length-2 : tie.Need-same-length-2
 same-length-2 c = search needs
@@ -76,7 +71,7 @@ returns-2 : tie.Need-returns-2
 returns-2 c =
     accepted-room (c .before .before .before .before .before .before .before .before .args .work .now)
     (c .before .before .before .before .before .before .before .before .args .len)
-    (c .before .before .before .before .before .before .before .before .args .result .now) _ refl
+    (c .before .before .before .before .before .before .before .before .args .result .now)
     (c .before .before .before .before .before .before .before .before .pre .short)
     (omega (arith, c .before .before .before .before .before .if1 .left))
     (c .before .before .write-array .ensures)
@@ -89,7 +84,6 @@ accept-spec =
     fail-requires
     same-length
     returns
-    sub-from
     add-write-array
     slice-relend-prefix-write-array
     slice-aggregate-write-array
@@ -98,6 +92,6 @@ accept-spec =
     part-write-array-start
     part-write-array-end
     write-array-requires
-    add-t6
+    add-t5
     same-length-2
     returns-2)

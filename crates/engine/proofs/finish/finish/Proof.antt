@@ -55,8 +55,9 @@ same-length-2 c = search needs
 
 returns-2 : tie.Need-returns-2
 returns-2 c =
-    λ st h. failed-large (c .before .before .before .before .before .before .before .before .args .result .now)
-    (c .before .before .fail .ensures) refl
+    λ st bs h ps. failed-large
+    (c .before .before .before .before .before .before .before .before .args .result .now)
+    (c .before .before .fail .ensures) ps refl
     (h .large-is (c .before .before .before .before .enum-told .given .1))
 
 same-length-3 : tie.Need-same-length-3
@@ -64,8 +65,9 @@ same-length-3 c = search needs
 
 returns-3 : tie.Need-returns-3
 returns-3 c =
-    λ st h. failed-long (c .before .before .before .before .before .before .before .before .args .result .now)
-    (c .before .before .fail2 .ensures) refl
+    λ st bs h ps. failed-long
+    (c .before .before .before .before .before .before .before .before .args .result .now)
+    (c .before .before .fail2 .ensures) ps refl
     (h .long-is (c .before .before .before .before .enum-told2 .given .1))
 
 same-length-4 : tie.Need-same-length-4
@@ -73,8 +75,9 @@ same-length-4 c = search needs
 
 returns-4 : tie.Need-returns-4
 returns-4 c =
-    λ st h. failed-full (c .before .before .before .before .before .before .before .before .args .result .now)
-    (c .before .before .fail3 .ensures) refl
+    λ st bs h ps. failed-full
+    (c .before .before .before .before .before .before .before .before .args .result .now)
+    (c .before .before .fail3 .ensures) ps refl
     (h .full (c .before .before .before .before .enum-told3 .given .1))
 
 pub finish-spec : {M : Type 1} → statement M

@@ -15,7 +15,6 @@ finish-requires : tie.Need-finish-requires
 finish-requires c κs =
     again-finish (c .before .before .before .before .joined-group .ensures)
     (c .before .before .before .before .before .before .before .before .before .before .before .pre)
-    (c .before .before .before .before .joined-group .kept .1 .1 .1 .1 .0)
 
 same-length : tie.Need-same-length
 same-length c = search needs

@@ -5,6 +5,7 @@ use Rattle.regrouping.specs.JoinedGroupLaws.{
   head-inside,
   joined-long,
   joined-above,
+  joined-standing,
   again-ready,
   again-ended,
   pairs-fit,
@@ -14,13 +15,11 @@ use Rattle.regrouping.proofs.joined_group.joined_group.Statement.{state
 use Rattle.regrouping.proofs.joined_group.joined_group.Tie as tie
 use Rattle.regrouping.proofs.joined_group.joined_group.Reads as reads
 use Rattle.regrouping.proofs.joined_group.joined_group.Lts as lts
+use Rattle.positions.proofs.bear.number.Reads as number-reads
 use Rattle.regrouping.proofs.join.join.Reads as join-reads
 use Rattle.stretches.proofs.later.last.Reads as last-reads
 use Rattle.stretches.proofs.later.next_stretch.Reads as next-stretch-reads
 use Rattle.trays.proofs.again.write_again.Reads as write-again-reads
-
-sub-from : tie.Need-sub-from
-sub-from c = omega (arith, c .before .before .before .before .pre .size)
 
 join-requires : tie.Need-join-requires
 join-requires c κs = (
@@ -47,23 +46,29 @@ same-length c = search needs
 returns : tie.Need-returns
 returns c = joined-long (c .before .before .before .before .join .ensures) (c .enum-told .given .1)
 
+sub-len : tie.Need-sub-len
+sub-len c =
+    omega (
+      arith,
+      joined-above (c .before .before .before .before .before .join .ensures)
+          (c .before .joined .given .1)
+          (c .before .before .before .before .before .before .before .before .before .before .before .pre)
+          refl (c .before .before .before .before .before .join .kept .0),
+    )
+
+number-requires : tie.Need-number-requires
+number-requires c κs =
+    joined-standing (c .before .before .before .before .before .before .join .ensures)
+    (c .before .before .joined .given .1)
+    (c .before .before .before .before .before .before .before .before .before .before .before .before .pre)
+    refl (c .before .before .before .before .before .before .join .kept .0)
+
 slice-aggregate-write-again : tie.Need-slice-aggregate-write-again
 slice-aggregate-write-again c = search needs
 
 write-again-requires : tie.Need-write-again-requires
 write-again-requires c κs =
-    pairs-fit _ refl (c .before .before .before .before .before .before .before .before .before .before .before .before .pre)
-
-sub-next-stretch : tie.Need-sub-next-stretch
-sub-next-stretch c =
-    omega (
-      arith,
-      joined-above
-          (c .before .before .before .before .before .before .before .before .before .join .ensures)
-          (c .before .before .before .before .before .joined .given .1)
-          (c .before .before .before .before .before .before .before .before .before .before .before .before .before .before .before .pre)
-          refl (c .before .before .before .before .before .before .before .before .before .join .kept .0),
-    )
+    pairs-fit _ refl (c .before .before .before .before .before .before .before .before .before .before .before .before .before .before .before .before .pre)
 
 slice-aggregate-next-stretch : tie.Need-slice-aggregate-next-stretch
 slice-aggregate-next-stretch c = search needs
@@ -73,10 +78,12 @@ slice-aggregate-next-stretch-2 c = search needs
 
 next-stretch-requires : tie.Need-next-stretch-requires
 next-stretch-requires c κs =
-    again-ready (c .before .before .before .before .before .before .before .before .before .before .before .join .ensures)
-    (c .before .before .before .before .before .before .before .joined .given .1)
-    (c .before .before .before .before .before .before .before .before .before .before .before .before .before .before .before .before .before .pre)
-    refl (c .before .before .before .before .before .before .before .before .before .before .before .join .kept .0)
+    again-ready (c .before .before .before .before .before .before .before .before .before .before .before .before .before .before .before .join .ensures)
+    (c .before .before .before .before .before .before .before .before .before .before .before .joined .given .1)
+    (c .before .before .before .before .before .before .before .before .before .before .before .before .before .before .before .before .before .before .before .before .before .pre)
+    refl (c .before .before .before .before .before .before .before .before .before .before .before .before .before .before .before .join .kept .0)
+    (c .before .before .before .before .before .before .before .before .number .kept .0)
+    (c .before .before .before .before .before .before .before .before .number .ensures)
     (c .before .before .before .before .write-again .ensures) _ refl
 
 last-requires : tie.Need-last-requires
@@ -87,27 +94,28 @@ same-length-2 c = search needs
 
 returns-2 : tie.Need-returns-2
 returns-2 c =
-    again-ended (c .before .before .before .before .before .before .before .before .before .before .before .before .before .before .before .join .ensures)
-    (c .before .before .before .before .before .before .before .before .before .before .before .joined .given .1)
-    (c .before .before .before .before .before .before .before .before .before .before .before .before .before .before .before .before .before .before .before .before .before .pre)
-    refl (c .before .before .before .before .before .before .before .before .before .before .before .before .before .before .before .join .kept .0)
+    again-ended (c .before .before .before .before .before .before .before .before .before .before .before .before .before .before .before .before .before .before .before .join .ensures)
+    (c .before .before .before .before .before .before .before .before .before .before .before .before .before .before .before .joined .given .1)
+    (c .before .before .before .before .before .before .before .before .before .before .before .before .before .before .before .before .before .before .before .before .before .before .before .before .before .pre)
+    refl (c .before .before .before .before .before .before .before .before .before .before .before .before .before .before .before .before .before .before .before .join .kept .0)
+    (c .before .before .before .before .before .before .before .before .before .before .before .before .number .kept .0)
+    (c .before .before .before .before .before .before .before .before .before .before .before .before .number .ensures)
     (c .before .before .before .before .before .before .before .before .write-again .ensures) _
-    refl (c .before .before .before .next-stretch .kept .0)
-    (c .before .before .before .next-stretch .ensures) (c .last .ensures)
+    refl (c .before .before .before .next-stretch .ensures) (c .last .ensures)
 
 pub joined-group-spec : {M : Type 1} → statement M
 joined-group-spec =
     tie.close
     (tie.spec
-    sub-from
     join-requires
     enum-known-joined
     enum-told
     same-length
     returns
+    sub-len
+    number-requires
     slice-aggregate-write-again
     write-again-requires
-    sub-next-stretch
     slice-aggregate-next-stretch
     slice-aggregate-next-stretch-2
     next-stretch-requires

@@ -5,8 +5,8 @@ use Rattle.stretches.proofs.all.all.Statement.{statement}
 use Rattle.stretches.proofs.all.all.Tie as tie
 use Rattle.stretches.proofs.all.all.Reads as reads
 use Rattle.stretches.proofs.all.all.Lts as lts
+use Rattle.first_stretch.proofs.first.first.Reads as first-reads
 use Rattle.queries.proofs.stage.stages_of.Reads as stages-of-reads
-use Rattle.stretches.proofs.first.first.Reads as first-reads
 use Rattle.stretches.proofs.later.later.Reads as later-reads
 
 stages-of-requires : tie.Need-stages-of-requires

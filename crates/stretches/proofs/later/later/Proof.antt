@@ -17,9 +17,9 @@ use Rattle.stretches.proofs.later.later.Statement.{statement}
 use Rattle.stretches.proofs.later.later.Tie as tie
 use Rattle.stretches.proofs.later.later.Reads as reads
 use Rattle.stretches.proofs.later.later.Lts as lts
+use Rattle.stretch.proofs.next.next_group.Reads as next-group-reads
 use Rattle.stretches.proofs.later.last.Reads as last-reads
 use Rattle.stretches.proofs.later.next_stretch.Reads as next-stretch-reads
-use Rattle.stretches.proofs.next.next_group.Reads as next-group-reads
 
 abbrev Inv-loop : tie.InvT-loop
 Inv-loop work₀ query joined held₀ rest₀ work held rest =
@@ -56,8 +56,7 @@ returns c =
     c .before .before .before .before .loop .inv .whole
     (later-last (c .before .before .before .next-group .ensures)
     (c .before .before .before .before .loop .work) (c .before .before .before .before .loop .held)
-    (c .last .result) (c .before .enum-told .given .1)
-    (omega (arith, (c .before .before .before .before .loop .inv .ready) .size)) (c .last .ensures))
+    (c .last .result) (c .before .enum-told .given .1) (c .last .ensures))
 
 enum-known-held : tie.Need-enum-known-held Inv-loop μ-loop
 enum-known-held c = search needs

@@ -6,7 +6,7 @@ use Rattle.stretches.proofs.later.next_stretch.Tie as tie
 use Rattle.stretches.proofs.later.next_stretch.Reads as reads
 use Rattle.stretches.proofs.later.next_stretch.Lts as lts
 use Rattle.arrange.proofs.arrange.arrange.Reads as arrange-reads
-use Rattle.stretches.proofs.group_stretch.regroup.Reads as regroup-reads
+use Rattle.group_stretch.proofs.classes.regroup.Reads as regroup-reads
 
 arrange-requires : tie.Need-arrange-requires
 arrange-requires c κs = held-collected (c .before .before .before .before .before .pre)

@@ -17,12 +17,13 @@ run-requires c κs = search needs
 packed-requires : tie.Need-packed-requires
 packed-requires c κs =
     answered-short (run-short
-    (call (c .before .before .before .before .before .before .before .before .before .before .before .before .args .query .now)
-    (c .before .before .before .before .before .before .before .before .before .before .before .before .args .input .now)
-    (c .before .before .before .before .before .before .before .before .before .before .before .before .args .joined .now)
-    (c .before .before .before .before .before .before .before .before .before .before .before .before .args .work .now)
-    (c .before .before .before .before .before .before .before .before .before .before .before .before .args .result .now)))
-    (run-by (c .before .before .before .before .run .ensures))
+    (call (c .before .before .before .before .before .before .before .before .before .before .before .before .before .before .before .before .args .query .now)
+    (c .before .before .before .before .before .before .before .before .before .before .before .before .before .before .before .before .args .input .now)
+    (c .before .before .before .before .before .before .before .before .before .before .before .before .before .before .before .before .args .joined .now)
+    (c .before .before .before .before .before .before .before .before .before .before .before .before .before .before .before .before .args .work .now)
+    (c .before .before .before .before .before .before .before .before .before .before .before .before .before .before .before .before .args .result .now)
+    (c .before .before .before .before .before .before .before .before .before .before .before .before .before .before .before .before .args .positions .now)))
+    (run-by (c .before .before .before .before .before .before .run .ensures))
 
 same-length : tie.Need-same-length
 same-length c = search needs
@@ -30,16 +31,22 @@ same-length c = search needs
 same-length-2 : tie.Need-same-length-2
 same-length-2 c = search needs
 
+same-length-3 : tie.Need-same-length-3
+same-length-3 c = search needs
+
 returns : tie.Need-returns
 returns c =
     by-run (answered-one (run-short
-    (call (c .before .before .before .before .before .before .before .before .before .before .before .before .before .args .query .now)
-    (c .before .before .before .before .before .before .before .before .before .before .before .before .before .args .input .now)
-    (c .before .before .before .before .before .before .before .before .before .before .before .before .before .args .joined .now)
-    (c .before .before .before .before .before .before .before .before .before .before .before .before .before .args .work .now)
-    (c .before .before .before .before .before .before .before .before .before .before .before .before .before .args .result .now)))
-    (run-by (c .before .before .before .before .before .run .ensures)) (c .packed .ensures))
+    (call (c .before .before .before .before .before .before .before .before .before .before .before .before .before .before .before .before .before .args .query .now)
+    (c .before .before .before .before .before .before .before .before .before .before .before .before .before .before .before .before .before .args .input .now)
+    (c .before .before .before .before .before .before .before .before .before .before .before .before .before .before .before .before .before .args .joined .now)
+    (c .before .before .before .before .before .before .before .before .before .before .before .before .before .before .before .before .before .args .work .now)
+    (c .before .before .before .before .before .before .before .before .before .before .before .before .before .before .before .before .before .args .result .now)
+    (c .before .before .before .before .before .before .before .before .before .before .before .before .before .before .before .before .before .args .positions .now)))
+    (run-by (c .before .before .before .before .before .before .before .run .ensures))
+    (c .packed .ensures)) (c .before .before .before .before .before .before .before .run .ensures .positions-is)
 
 pub tquery-run-spec : {M : Type 1} → statement M
 tquery-run-spec =
-    tie.close (tie.spec run-requires packed-requires same-length same-length-2 returns)
+    tie.close
+    (tie.spec run-requires packed-requires same-length same-length-2 same-length-3 returns)

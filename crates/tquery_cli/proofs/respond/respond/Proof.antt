@@ -18,17 +18,20 @@ slice-aggregate-respond-in c = search needs
 slice-aggregate-respond-in-2 : tie.Need-slice-aggregate-respond-in-2
 slice-aggregate-respond-in-2 c = search needs
 
+slice-aggregate-respond-in-3 : tie.Need-slice-aggregate-respond-in-3
+slice-aggregate-respond-in-3 c = search needs
+
 respond-in-requires : tie.Need-respond-in-requires
 respond-in-requires c κs =
-    areas-ready (c .before .before .before .before .before .args .input .now)
-    (c .before .before .before .read-part .ensures)
-    (omega (arith, c .before .before .before .before .before .good))
+    areas-ready (c .before .before .before .before .before .before .args .input .now)
+    (c .before .before .before .before .read-part .ensures)
+    (omega (arith, c .before .before .before .before .before .before .good))
 
 returns : tie.Need-returns
 returns c =
-    read-first (c .before .before .before .before .before .before .before .before .args .input .now)
-    (c .before .before .before .before .before .before .read-part .ensures)
-    (c .before .before .respond-in .ensures)
+    read-first (c .before .before .before .before .before .before .before .before .before .before .args .input .now)
+    (c .before .before .before .before .before .before .before .before .read-part .ensures)
+    (c .before .before .before .respond-in .ensures)
 
 pub respond-spec : {M : Type 1} → statement M
 respond-spec =
@@ -37,5 +40,6 @@ respond-spec =
     read-part-requires
     slice-aggregate-respond-in
     slice-aggregate-respond-in-2
+    slice-aggregate-respond-in-3
     respond-in-requires
     returns)

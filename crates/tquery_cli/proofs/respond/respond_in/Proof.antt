@@ -21,7 +21,7 @@ piece-end-requires-2 c κs = search needs
 slice-aggregate-run : tie.Need-slice-aggregate-run
 slice-aggregate-run c =
     sym (length-take-le (c .before .before .piece-end .result)
-    (c .before .before .before .before .before .before .before .args .input .now)
+    (c .before .before .before .before .before .before .before .before .args .input .now)
     (omega (arith, c .before .before .piece-end .ensures)))
 
 sub-run : tie.Need-sub-run
@@ -47,8 +47,8 @@ run-requires c κs = search needs
 
 write-answer-requires : tie.Need-write-answer-requires
 write-answer-requires c κs =
-    answer-ready (c .before .before .before .before .before .before .before .before .before .before .before .before .before .before .before .before .before .before .pre)
-    (c .before .before .before .before .before .before .run .ensures)
+    answer-ready (c .before .before .before .before .before .before .before .before .before .before .before .before .before .before .before .before .before .before .before .before .before .before .pre)
+    (c .before .before .before .before .before .before .before .before .run .ensures)
 
 same-length : tie.Need-same-length
 same-length c = search needs
@@ -59,12 +59,15 @@ same-length-2 c = search needs
 same-length-3 : tie.Need-same-length-3
 same-length-3 c = search needs
 
+same-length-4 : tie.Need-same-length-4
+same-length-4 c = search needs
+
 returns : tie.Need-returns
 returns c =
-    responds (c .before .before .before .before .before .before .before .before .before .before .before .before .before .before .before .before .before .before .before .before .before .pre)
-    (c .before .before .before .before .before .before .before .before .before .before .before .before .before .before .before .before .piece-end .ensures)
-    (c .before .before .before .before .before .before .before .before .before .before .before .before .before .before .before .piece-end2 .ensures)
-    (c .before .before .before .before .before .before .before .before .before .run .ensures)
+    responds (c .before .before .before .before .before .before .before .before .before .before .before .before .before .before .before .before .before .before .before .before .before .before .before .before .before .pre)
+    (c .before .before .before .before .before .before .before .before .before .before .before .before .before .before .before .before .before .before .before .piece-end .ensures)
+    (c .before .before .before .before .before .before .before .before .before .before .before .before .before .before .before .before .before .before .piece-end2 .ensures)
+    (c .before .before .before .before .before .before .before .before .before .before .before .run .ensures)
     (c .before .before .write-answer .ensures)
 
 pub respond-in-spec : {M : Type 1} → statement M
@@ -85,4 +88,5 @@ respond-in-spec =
     same-length
     same-length-2
     same-length-3
+    same-length-4
     returns)

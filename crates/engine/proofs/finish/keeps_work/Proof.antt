@@ -1,0 +1,111 @@
+-- Made from Proof.ans by answers.py, which overwrites this file: edit Proof.ans.
+use Rattle.spec_run.specs.Refusal.{keepsWork}
+use borrow.Author.Needs.{needs}
+use Rattle.engine.proofs.finish.keeps_work.Statement.{statement}
+use Rattle.engine.proofs.finish.keeps_work.Tie as tie
+use Rattle.engine.proofs.finish.keeps_work.Reads as reads
+use Rattle.engine.proofs.finish.keeps_work.Lts as lts
+
+enum-told : tie.Need-enum-told
+enum-told c = search needs
+
+enum-told-2 : tie.Need-enum-told-2
+enum-told-2 c = search needs
+
+enum-told-3 : tie.Need-enum-told-3
+enum-told-3 c = search needs
+
+enum-told-4 : tie.Need-enum-told-4
+enum-told-4 c = search needs
+
+enum-told-5 : tie.Need-enum-told-5
+enum-told-5 c = search needs
+
+enum-told-6 : tie.Need-enum-told-6
+enum-told-6 c = search needs
+
+enum-told-7 : tie.Need-enum-told-7
+enum-told-7 c = search needs
+
+enum-told-8 : tie.Need-enum-told-8
+enum-told-8 c = search needs
+
+enum-told-9 : tie.Need-enum-told-9
+enum-told-9 c = search needs
+
+enum-told-10 : tie.Need-enum-told-10
+enum-told-10 c = search needs
+
+enum-told-11 : tie.Need-enum-told-11
+enum-told-11 c = search needs
+
+returns : tie.Need-returns
+unfolding keepsWork
+returns c = search needs
+
+returns-2 : tie.Need-returns-2
+unfolding keepsWork
+returns-2 c = search needs
+
+returns-3 : tie.Need-returns-3
+unfolding keepsWork
+returns-3 c = search needs
+
+returns-4 : tie.Need-returns-4
+unfolding keepsWork
+returns-4 c = search needs
+
+returns-5 : tie.Need-returns-5
+unfolding keepsWork
+returns-5 c = search needs
+
+returns-6 : tie.Need-returns-6
+unfolding keepsWork
+returns-6 c = search needs
+
+returns-7 : tie.Need-returns-7
+unfolding keepsWork
+returns-7 c = search needs
+
+returns-8 : tie.Need-returns-8
+unfolding keepsWork
+returns-8 c = search needs
+
+returns-9 : tie.Need-returns-9
+unfolding keepsWork
+returns-9 c = search needs
+
+returns-10 : tie.Need-returns-10
+unfolding keepsWork
+returns-10 c = search needs
+
+returns-11 : tie.Need-returns-11
+unfolding keepsWork
+returns-11 c = search needs
+
+pub keeps-work-spec : {M : Type 1} → statement M
+keeps-work-spec =
+    tie.close
+    (tie.spec
+    enum-told
+    enum-told-2
+    enum-told-3
+    enum-told-4
+    enum-told-5
+    enum-told-6
+    enum-told-7
+    enum-told-8
+    enum-told-9
+    enum-told-10
+    enum-told-11
+    returns
+    returns-2
+    returns-3
+    returns-4
+    returns-5
+    returns-6
+    returns-7
+    returns-8
+    returns-9
+    returns-10
+    returns-11)

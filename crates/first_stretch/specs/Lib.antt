@@ -1,0 +1,4 @@
+-- Definitions.
+pub mod First
+-- Laws.
+pub mod FirstLaws

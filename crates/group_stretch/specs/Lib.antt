@@ -1,0 +1,6 @@
+-- Definitions.
+pub mod Group
+pub mod Grouping
+-- Laws.
+pub mod ReadLaws
+pub mod GroupLaws

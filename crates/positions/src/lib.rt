@@ -1,0 +1,3 @@
+//! The positions that the collected trees bear.
+pub mod bear;
+pub mod entries;

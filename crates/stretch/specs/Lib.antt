@@ -1,0 +1,6 @@
+-- Definitions.
+pub mod Carry
+pub mod Next
+-- Laws.
+pub mod CarryLaws
+pub mod NextLaws
