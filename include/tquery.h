@@ -140,10 +140,10 @@
  * ones, with a return address and the arguments on the stack counted in, six
  * of tquery_run and four of tquery_regroup:
  *
- *     tquery_run          8,816 bytes
+ *     tquery_run          8,848 bytes
  *     tquery_regroup      2,816 bytes
- *     tquery_check_query  2,416 bytes
- *     tquery_check_array  1,400 bytes
+ *     tquery_check_query  2,384 bytes
+ *     tquery_check_array  1,368 bytes
  *
  * The library's tests fail if a call uses more than TQUERY_STACK_MAX bytes.
  * The library does not clear its stack, and single bytes of records were seen
