@@ -1,4 +1,5 @@
 -- Made from Proof.ans by answers.py, which overwrites this file: edit Proof.ans.
+use native.Mathlib.Omega.{arith}
 use Rattle.engine.specs.LinesLaws.{entries-ready, entries-lines, refused-lines}
 use borrow.Author.Needs.{needs}
 use Rattle.engine.proofs.lines.write_positions.Statement.{statement}
@@ -13,8 +14,8 @@ enum-known-answer c = search needs
 
 sub-write-entries : tie.Need-sub-write-entries
 sub-write-entries c =
-    (entries-ready (c .before .before .answer .given .1)
-    (c .before .before .before .before .before .before .pre)) .0
+    let low = (entries-ready (c .before .before .answer .given .1)
+    (c .before .before .before .before .before .before .pre)) .0 in omega (arith, low)
 
 write-entries-requires : tie.Need-write-entries-requires
 write-entries-requires c κs = (
