@@ -13,7 +13,6 @@ use Rattle.spec_trees.specs.Limits.{arrayMax}
 use Rattle.spec_trees.specs.OptionLaws.{leb-yes, leb-no}
 use Rattle.spec_trees.specs.Tree.{Tree}
 use Rattle.spec_trees.specs.Size.{arraySize}
-use Rattle.spec_trees.specs.SizeLaws.{length-array}
 use Rattle.spec_trees.specs.Bytes.{fieldBytes, arrayF, arrayBytes}
 use Rattle.areas.specs.Area.{Is, Wrote, headBytes}
 use Rattle.areas.specs.AreaLaws.{is-part, told}
@@ -23,6 +22,7 @@ use Rattle.spec_stages.specs.Positions.{unmarked}
 use Rattle.map.specs.Map.{collectedAt}
 use Rattle.stretches.specs.declared.ended.Ended.{Ended}
 use Rattle.stretches.specs.Ended.{FullIs}
+use Rattle.stretches.specs.LaterLaws.{size-is}
 use Rattle.spec_run.specs.declared.answer.Refusal.{Refusal}
 use Rattle.spec_run.specs.declared.answer.Refusal.the-variants.{TreeLarge, GroupLong, ResultLong}
 use Rattle.spec_run.specs.declared.answer.Answer.{Answer}
@@ -53,9 +53,6 @@ array-is ts = refl
 pub bytes-size : (ts : List Tree) → length (arrayBytes ts) ≡ length (arrayTrees ts) + 3
 bytes-size ts = sym (ap length (array-is ts)) ∙ omega (arith, length-append (headBytes 1 (length (arrayTrees ts))) (arrayTrees ts))
 
-array-size : (ts : List Tree) → arraySize ts ≡ length (arrayTrees ts) + 3
-array-size ts = sym (length-array ts) ∙ bytes-size ts
-
 -- a refusal in or after the stages
 module _ {a : Answer} {left : List ℕ} (area : List ℕ) {r : Refusal} (h : (a ≡ Refused r) × (left ≡ replicate (length area) 0)) (ps : List ℕ) where
   pub failed-large : r ≡ TreeLarge → {st : State} → st ≡ large → AnswersAs area (final (length area) ps st) a left
@@ -78,7 +75,7 @@ module _ {a : Answer} {left : List ℕ} (area : List ℕ) {r : Refusal} (h : (a 
   pub failed-room : {n : ℕ} → r ≡ ResultLong → n + 3 ≤ arrayMax → length area < n + 3 → (ts : List Tree) → n ≡ length (arrayTrees ts)
       → AnswersAs area (final (length area) ps (going ts)) a left
   failed-room z m l ts e =
-      let s = array-size ts in
+      let s = size-is ts in
       failed-by z ts (ap₂ _&&_ (leb-yes (arraySize ts) arrayMax (omega arith)) (leb-no (arraySize ts) (length area) (omega arith)))
 
 -- the trees in the collector take its bytes
@@ -94,7 +91,7 @@ accepted-room w n area {x} m l z ts t ps =
     let p : take (collectedAt + n - collectedAt) (drop collectedAt w) ≡ arrayTrees ts = is-part t in
     let q : x ≡ arrayBytes ts = z ∙ ap (λ b. headBytes 1 (length b) ++ b) p ∙ array-is ts in
     let k : n + 3 ≡ length (arrayBytes ts) = omega (arith, bytes-size ts, held-length t) in
-    let s = array-size ts in
+    let s = size-is ts in
     let c : (leb (arraySize ts) arrayMax && leb (arraySize ts) (length area)) ≡ true =
     ap₂ _&&_ (leb-yes (arraySize ts) arrayMax (omega (arith, held-length t))) (leb-yes (arraySize ts) (length area) (omega (arith, held-length t))) in
     rw c record { number-is = refl; length-is = k; result-is = ap₂ (λ b i. b ++ drop i area) q k }

@@ -74,9 +74,6 @@ module _ {inp w q : List ℕ} {p : Span} {j : List ℕ} (h : FirstReady inp w q 
   pub first-stages : HoldsAt stagesBytes q p
   first-stages = record { value = h .list; value-is = h .planned .stages-is }
 
-  pub first-long : 3 ≤ length inp
-  first-long = omega (arith, h .input .value-is .ends)
-
   module _ {v : List ℕ} {o : Out} (l : length v ≡ length w)
       (k : Wrote w v collectedAt (collectedAt + treesMax) (take (length inp - 3) (drop 3 inp)) o) where
     input-is : (ts : List Tree) → Is inp 3 (length inp) (arrayTrees ts) → Is v collectedAt (collectedAt + (length inp - 3)) (arrayTrees ts)
@@ -172,9 +169,6 @@ module _ {inp w₀ q : List ℕ} {p : Span} {j : List ℕ} (h : FirstReady inp w
   module _ {w : List ℕ} {s : Collector} {k i : ℕ} (g : FirstGoing inp w₀ q p j w s k i) where
     size : length w ≡ workMin
     size = g .same ∙ h .size
-
-    pub first-room : lentPart ≤ length w
-    first-room = omega (arith, size)
 
     pub first-lent : length (lentArea w) ≡ lentPart
     first-lent = lent-length w size

@@ -31,6 +31,29 @@ unfolding stepped numbered
 stepped-one k [] = refl
 stepped-one k (t ∷ ts) = let z : k + 1 ≡ suc k = omega arith in ap (λ l. record { position = k; tree = t } ∷ l) (ap (λ n. stepped n 1 ts) z ∙ stepped-one (suc k) ts)
 
+-- ---- one of the trees that stand there: it ends at e
+module _ {w : List ℕ} {at b : ℕ} (s : Standing w at b) (n : at ≡ b → ⊥) {e : ℕ} (z : e ≡ fieldEnd w (collectedAt + at)) where
+  pub standing-parts : (ts : List Tree) → StandFrom w at b ts → ArrayParts w (collectedAt + at) e (collectedAt + b) ts
+  standing-parts ts h = array-parts ts z (λ y. n (omega arith)) h
+
+  abbrev parts : ArrayParts w (collectedAt + at) e (collectedAt + b) (s .trees)
+  parts = standing-parts (s .trees) (s .trees-are)
+
+  pub standing-places : (collectedAt + at + 6 ≤ e) × (e ≤ collectedAt + b) × (b ≤ treesMax) × (length w ≡ workMin)
+  standing-places = (parts .after, parts .within, s .short, s .size)
+
+  -- where the next one begins, counted from the first
+  pub next-is : collectedAt + (e - collectedAt) ≡ e
+  next-is = omega (arith, standing-places)
+
+  -- the others, also where the positions have changed
+  module _ {v : List ℕ} (k : take lentPart v ≡ take lentPart w) where
+    pub others-stand : (ts : List Tree) → Is w e (collectedAt + b) (arrayTrees ts) → StandFrom v (e - collectedAt) b ts
+    others-stand ts y = subst (λ i. Is v i (collectedAt + b) (arrayTrees ts)) (sym next-is) (is-keep y {d = lentPart} k (omega (arith, s .short)))
+
+    pub standing-next : length v ≡ length w → Standing v (e - collectedAt) b
+    standing-next l = record { size = l ∙ s .size; trees = parts .rest; trees-are = others-stand (parts .rest) (parts .rest-is); short = s .short }
+
 -- ---- one tree after another
 -- the trees from `at` on get theirs, from k on
 pub record Going (w₀ : List ℕ) (a b k₀ d : ℕ) (w : List ℕ) (k at : ℕ) : Type 0 where
@@ -51,48 +74,39 @@ module _ {w₀ : List ℕ} {a b k₀ d : ℕ} where
       bears = λ ts h. subst (λ l. Bears w at (stepped k d l)) (sym (array-none ts (omega arith) h)) tt;
     }
 
-    module _ (n : at ≡ b → ⊥) {e : ℕ} (z : e ≡ fieldEnd w (collectedAt + at)) where
-      parts : (ts : List Tree) → StandFrom w at b ts → ArrayParts w (collectedAt + at) e (collectedAt + b) ts
-      parts ts h = array-parts ts z (λ y. n (omega arith)) h
+    module _ (n : at ≡ b → ⊥) {e : ℕ} (z : e ≡ fieldEnd w (collectedAt + at)) {x : List ℕ} (l : length x ≡ length w)
+        (h : Wrote w x (positionAt at) (positionAt at + 2) (twoBytes k) (Out.At (positionAt at + 2))) where
+      abbrev m : ℕ
+      m = e - collectedAt
 
-      abbrev here : ArrayParts w (collectedAt + at) e (collectedAt + b) (g .left .trees)
-      here = parts (g .left .trees) (g .left .trees-are)
+      places : (collectedAt + at + 6 ≤ e) × (e ≤ collectedAt + b) × (b ≤ treesMax) × (length w ≡ workMin)
+      places = standing-places (g .left) n z
 
-      pub bear-places : (collectedAt + at + 6 ≤ e) × (e ≤ collectedAt + b) × (b ≤ treesMax) × (length w ≡ workMin)
-      bear-places = (here .after, here .within, g .left .short, g .left .size)
+      below : take (positionAt at) x ≡ take (positionAt at) w
+      below = wrote-keep h (omega (arith, places))
 
-      module _ {x : List ℕ} (l : length x ≡ length w) (h : Wrote w x (positionAt at) (positionAt at + 2) (twoBytes k) (Out.At (positionAt at + 2))) where
-        abbrev m : ℕ
-        m = e - collectedAt
+      lent : take lentPart x ≡ take lentPart w
+      lent = take-less w x lentPart (positionAt at) (omega arith) below
 
-        m-is : collectedAt + m ≡ e
-        m-is = omega (arith, bear-places)
+      then-on : (v : List ℕ) → Bearing x v m b (k + d) d → Bearing w v at b k d
+      unfolding Bears stepped
+      then-on v y = record {
+        kept = take-less x v (positionAt at) (positionAt m) (omega (arith, places)) (y .kept) ∙ below;
+        bears = λ ts i.
+            let c = standing-parts (g .left) n z ts i in
+            let num : twoAt v (positionAt at) ≡ k = two-below x v (positionAt m) (y .kept) (positionAt at) (omega (arith, places)) ∙ put (omega (arith, places)) h .here in
+            let size : at + length (treeBytes (c .first)) ≡ m = omega (arith, c .first-is .ends, next-is (g .left) n z) in
+            subst (λ l2. Bears v at (stepped k d l2)) (sym (c .same))
+            (num, subst (λ i2. Bears v i2 (stepped (k + d) d (c .rest))) (sym size) (y .bears (c .rest) (others-stand (g .left) n z lent (c .rest) (c .rest-is))));
+      }
 
-        below : take (positionAt at) x ≡ take (positionAt at) w
-        below = wrote-keep h (omega (arith, bear-places))
-
-        rest-stands : (ts : List Tree) → Is w e (collectedAt + b) (arrayTrees ts) → StandFrom x m b ts
-        rest-stands ts y = subst (λ i. Is x i (collectedAt + b) (arrayTrees ts)) (sym m-is) (is-keep y {d = positionAt at} below (omega (arith, g .left .short)))
-
-        then-on : (v : List ℕ) → Bearing x v m b (k + d) d → Bearing w v at b k d
-        unfolding Bears stepped
-        then-on v y = record {
-          kept = take-less x v (positionAt at) (positionAt m) (omega (arith, bear-places)) (y .kept) ∙ below;
-          bears = λ ts i.
-              let c = parts ts i in
-              let num : twoAt v (positionAt at) ≡ k = two-below x v (positionAt m) (y .kept) (positionAt at) (omega (arith, bear-places)) ∙ put (omega (arith, bear-places)) h .here in
-              let size : at + length (treeBytes (c .first)) ≡ m = omega (arith, c .first-is .ends, m-is) in
-              subst (λ l2. Bears v at (stepped k d l2)) (sym (c .same))
-              (num, subst (λ i2. Bears v i2 (stepped (k + d) d (c .rest))) (sym size) (y .bears (c .rest) (rest-stands (c .rest) (c .rest-is))));
-        }
-
-        pub bear-again : d ≤ 1 → Going w₀ a b k₀ d x (k + d) m
-        bear-again u = record {
-          left = record { size = l ∙ g .left .size; trees = here .rest; trees-are = rest-stands (here .rest) (here .rest-is); short = g .left .short };
-          same = l ∙ g .same;
-          low = omega (arith, bear-places, g .low);
-          whole = λ v y. g .whole v (then-on v y);
-        }
+      pub bear-again : d ≤ 1 → Going w₀ a b k₀ d x (k + d) m
+      bear-again u = record {
+        left = standing-next (g .left) n z lent l;
+        same = l ∙ g .same;
+        low = omega (arith, places, g .low);
+        whole = λ v y. g .whole v (then-on v y);
+      }
 
 -- ---- all of them
 pub marks-all : {w v : List ℕ} {a b k : ℕ} → Bearing w v a b k 0 → Marks w v a b k

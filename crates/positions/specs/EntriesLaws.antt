@@ -6,17 +6,15 @@ use native.Mathlib.Numerals.{add-one}
 use native.Mathlib.Omega.{arith}
 use lib.ListN.{length, drop, set, length-set, length-map}
 use lib.Seq.{sets, sets-eq}
-use Rattle.spec_trees.specs.Limits.{positionsMin, workMin}
-use Rattle.spec_trees.specs.Tree.{Tree}
+use Rattle.spec_trees.specs.Limits.{positionsMin}
 use Rattle.spec_trees.specs.Bytes.{treeBytes}
-use Rattle.areas.specs.Area.{Is, fieldEnd}
+use Rattle.areas.specs.Area.{fieldEnd}
 use Rattle.areas.specs.Number.{twoAt}
-use Rattle.queries.specs.Places.{arrayTrees}
-use Rattle.queries.specs.TreesLaws.{ArrayParts, array-parts, array-none, length-none}
+use Rattle.queries.specs.TreesLaws.{array-none, length-none}
 use Rattle.spec_stages.specs.Positions.{Borne, unmarked, positions}
 use Rattle.map.specs.Map.{treesMax, collectedAt, positionAt}
 use Rattle.positions.specs.Bearing.{Bears, StandFrom, Standing}
-use Rattle.positions.specs.BearingLaws.{few-trees}
+use Rattle.positions.specs.BearingLaws.{standing-parts, standing-places, next-is, others-stand, standing-next, few-trees}
 use Rattle.positions.specs.Entries.{Enters}
 
 -- what stands in the collector from `at` to n, as trees that bear positions: e became v by a store of each from i on
@@ -54,45 +52,30 @@ module _ {w e₀ : List ℕ} {n : ℕ} where
         none z (b ∷ bs) h k = let y = array-none (b .tree ∷ unmarked bs) (omega arith) h in let x : _≡_ {A = ℕ} 0 1 = cc in absurd (omega arith)
 
     module _ (d : at ≡ n → ⊥) {f : ℕ} (z : f ≡ fieldEnd w (collectedAt + at)) where
-      parts : (ts : List Tree) → StandFrom w at n ts → ArrayParts w (collectedAt + at) f (collectedAt + n) ts
-      parts ts h = array-parts ts z (λ y. d (omega arith)) h
-
-      abbrev here : ArrayParts w (collectedAt + at) f (collectedAt + n) (g .left .trees)
-      here = parts (g .left .trees) (g .left .trees-are)
-
-      pub entry-places : (collectedAt + at + 6 ≤ f) × (f ≤ collectedAt + n) × (n ≤ treesMax) × (length w ≡ workMin)
-      entry-places = (here .after, here .within, g .left .short, g .left .size)
-
       -- a tree is left, so an entry is
       pub entry-room : positionsMin ≤ length e₀ → i < length e
-      entry-room m = omega (arith, entry-places, g .low, g .same)
+      entry-room m = omega (arith, standing-places (g .left) d z, g .low, g .same)
 
       abbrev m : ℕ
       m = f - collectedAt
-
-      m-is : collectedAt + m ≡ f
-      m-is = omega (arith, entry-places)
-
-      rest-stands : (ts : List Tree) → Is w f (collectedAt + n) (arrayTrees ts) → StandFrom w m n ts
-      rest-stands ts y = subst (λ k. Is w k (collectedAt + n) (arrayTrees ts)) (sym m-is) y
 
       module _ {p : ℕ} (y : p ≡ twoAt w (positionAt at)) where
         then-on : (v : List ℕ) → Stored w n (set e i p) v (i + 1) m → Stored w n e v i at
         unfolding Bears
         then-on v h [] s b = absurd (d (omega (arith, s .ends, length-none)))
         then-on v h (b ∷ bs) s k =
-            let c = parts (b .tree ∷ unmarked bs) s in
+            let c = standing-parts (g .left) d z (b .tree ∷ unmarked bs) s in
             let t : b .tree ≡ c .first = cc in
             let r : unmarked bs ≡ c .rest = cc in
-            let size : at + length (treeBytes (b .tree)) ≡ m = omega (arith, c .first-is .ends, ap (λ x. length (treeBytes x)) t, m-is) in
-            h bs (subst (StandFrom w m n) (sym r) (rest-stands (c .rest) (c .rest-is))) (subst (λ x. Bears w x bs) size (k .1))
+            let size : at + length (treeBytes (b .tree)) ≡ m = omega (arith, c .first-is .ends, ap (λ x. length (treeBytes x)) t, next-is (g .left) d z) in
+            h bs (subst (StandFrom w m n) (sym r) (others-stand (g .left) d z refl (c .rest) (c .rest-is))) (subst (λ x. Bears w x bs) size (k .1))
             ∙ ap (λ x. sets (set e i p) x (positions bs)) (add-one i)
             ∙ ap (λ x. sets (set e i x) (suc i) (positions bs)) (y ∙ k .0)
 
         pub entry-again : Going w e₀ n (set e i p) (i + 1) m
         entry-again = record {
-          left = record { size = g .left .size; trees = here .rest; trees-are = rest-stands (here .rest) (here .rest-is); short = g .left .short };
+          left = standing-next (g .left) d z refl refl;
           same = length-set e i p ∙ g .same;
-          low = omega (arith, entry-places, g .low);
+          low = omega (arith, standing-places (g .left) d z, g .low);
           whole = λ v h. g .whole v (then-on v h);
         }

@@ -13,18 +13,16 @@ use Rattle.spec_trees.specs.OptionLaws.{eqb-same}
 use Rattle.spec_trees.specs.Lists.{filter, gather, each}
 use Rattle.spec_trees.specs.FilterLaws.{filter-constant, gather-append, gather-filter}
 use Rattle.spec_trees.specs.Tree.{Tree}
-use Rattle.spec_queries.specs.Query.{Pair, Stage, match, unwind, project, group, lookup}
+use Rattle.spec_queries.specs.Query.{Stage, match, unwind, project, group, lookup}
 use Rattle.spec_stages.specs.Criteria.{holds}
 use Rattle.spec_stages.specs.Unwind.{unwound}
 use Rattle.spec_stages.specs.Project.{projected}
-use Rattle.spec_stages.specs.Group.{classTree, grouped}
 use Rattle.spec_stages.specs.Lookup.{looked}
-use Rattle.spec_stages.specs.Stages.{performed, isGroup, State, going, large, long, after, stages}
-use Rattle.spec_stages.specs.Join.{beside, GroupFree}
-use Rattle.spec_stages.specs.JoinLaws.{stages-join}
-use Rattle.spec_stages.specs.Positions.{Borne, unmarked, marked, numbered, sole, onward, carry, carried, resultPositions, origin, lines, bearing, made}
+use Rattle.spec_stages.specs.Stages.{performed, isGroup, going, large, after, stages}
+use Rattle.spec_stages.specs.Join.{GroupFree}
+use Rattle.spec_stages.specs.Positions.{Borne, unmarked, marked, numbered, sole, onward, carry, carried, resultPositions, lines, bearing}
 use Rattle.spec_stages.specs.GoingLaws.{stages-going}
-use Rattle.spec_stages.specs.PositionLaws.{numbered-trees, marked-bear, carried-marked, carry-group, result-lines}
+use Rattle.spec_stages.specs.PositionLaws.{marked-bear, carried-marked, result-lines}
 
 -- ---- one stage
 -- what a stage makes of a tree alone, which bears that tree's position
@@ -92,45 +90,13 @@ module _ (us : List Tree) where
   carried-append (s ∷ ss) g a b = ap (carried us ss) (carry-append us s (g .0) a b) ∙ carried-append ss (g .1) (carry us s a) (carry us s b)
 
   -- and over what f gives of each of a list
-  pub carried-gather : {A : Type 0} (ss : List Stage) → GroupFree ss → (f : A → List Borne) (xs : List A)
-      → carried us ss (gather f xs) ≡ gather (λ x. carried us ss (f x)) xs
-  unfolding gather
-  carried-gather ss g f [] = carried-none ss g
-  carried-gather ss g f (x ∷ xs) = carried-append ss g (f x) (gather f xs) ∙ ap (λ l. carried us ss (f x) ++ l) (carried-gather ss g f xs)
-
   -- the trees that come out bearing i are what those that go in bearing i are carried to
   pub carried-bearing : (ss : List Stage) → GroupFree ss → (i : ℕ) (bs : List Borne) → bearing i (carried us ss bs) ≡ carried us ss (bearing i bs)
   unfolding carried
   carried-bearing [] g i bs = refl
   carried-bearing (s ∷ ss) g i bs = carried-bearing ss (g .1) i (carry us s bs) ∙ ap (carried us ss) (carry-bearing us s (g .0) i bs)
 
--- ---- tree by tree: what the stages make of each tree alone, bearing its position
-beside-going : (x y : State) {fs : List Tree} → beside x y ≡ going fs → (x ≡ going (made x)) × (y ≡ going (made y))
-unfolding beside made
-beside-going large y e = let z : _≡_ {A = ℕ} 0 1 = cc in absurd (omega arith)
-beside-going long y e = let z : _≡_ {A = ℕ} 0 1 = cc in absurd (omega arith)
-beside-going (going a) large e = let z : _≡_ {A = ℕ} 0 1 = cc in absurd (omega arith)
-beside-going (going a) long e = let z : _≡_ {A = ℕ} 0 1 = cc in absurd (omega arith)
-beside-going (going a) (going b) e = (refl, refl)
-
-pub carried-each : (us : List Tree) (ss : List Stage) → GroupFree ss → (bs : List Borne) {fs : List Tree} → stages us ss (going (unmarked bs)) ≡ going fs
-    → carried us ss bs ≡ onward (λ t. made (stages us ss (going (t ∷ [])))) bs
-unfolding gather marked
-carried-each us ss g [] e = carried-none us ss g
-carried-each us ss g (b ∷ bs) e =
-    let p = beside-going _ _ (sym (stages-join us ss (b .tree ∷ []) (unmarked bs) g) ∙ e) in
-    carried-append us ss g (b ∷ []) bs ∙ ap₂ _++_ (carried-marked us ss (b .position) (b .tree ∷ []) (p .0)) (carried-each us ss g bs (p .1))
-
-pub carried-numbered : (us : List Tree) (ss : List Stage) → GroupFree ss → (n : ℕ) (ts : List Tree) {fs : List Tree} → stages us ss (going ts) ≡ going fs
-    → carried us ss (numbered n ts) ≡ onward (λ t. made (stages us ss (going (t ∷ [])))) (numbered n ts)
-carried-numbered us ss g n ts e = carried-each us ss g (numbered n ts) (ap (λ l. stages us ss (going l)) (numbered-trees n ts) ∙ e)
-
--- behind a group, class by class: what the stages make of each class's tree alone, bearing its position
-pub carried-group : (us : List Tree) (ag gs : List Pair) (ss : List Stage) → GroupFree ss → (bs : List Borne)
-    → carried us (group ag gs ∷ ss) bs ≡ gather (λ c. carried us ss (marked (origin gs (c .0) bs) (sole (classTree ag gs c)))) (grouped gs (unmarked bs))
-unfolding carried
-carried-group us ag gs ss g bs = ap (carried us ss) (carry-group us ag gs bs) ∙ carried-gather us ss g _ (grouped gs (unmarked bs))
-
+-- ---- what becomes of one tree, if there is one, bears its position
 pub carried-sole : (us : List Tree) (ss : List Stage) (n : ℕ) (x : Option Tree) {fs : List Tree}
     → stages us ss (after (Option·map (λ t. t ∷ []) x)) ≡ going fs → carried us ss (marked n (sole x)) ≡ marked n fs
 unfolding after sole maybe

@@ -14,7 +14,6 @@ use Rattle.spec_stages.specs.Unwind.{unwound}
 use Rattle.spec_stages.specs.Project.{projected}
 use Rattle.spec_stages.specs.Group.{key, alike, sum, Class, upto, classTree}
 use Rattle.spec_stages.specs.Lookup.{looked}
-use Rattle.spec_stages.specs.Stages.{State, going, large, long}
 
 -- a tree, and the position that it bears
 pub record Borne : Type 0 where
@@ -97,9 +96,3 @@ lines (n ∷ ns) (t ∷ ts) = record { position = n; tree = t } ∷ lines ns ts
 -- those that bear i, in order
 unfoldable pub bearing : ℕ → List Borne → List Borne
 bearing i = filter (λ b. eqb (b .position) i)
-
--- the trees of a run that goes on
-unfoldable pub made : State → List Tree
-made (going ts) = ts
-made large = []
-made long = []

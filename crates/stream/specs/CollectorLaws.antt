@@ -43,7 +43,7 @@ pub feeds-move : {t t2 : List ℕ} {s : Collector} {v v2 : List ℕ} {r : Collec
 feeds-move {t} {t2} {s} {v} {v2} {r} {st} a b f = record { fed = λ xs h. fed-ends v2 v r xs st (sym b) (f .fed xs (collects-ends t t2 s xs a h)) }
 
 -- ---- one state, and another
-never-collects : (t : List ℕ) (s : Collector) (ys : List ℕ) → isLarge s ≡ true → Collects t s ys → ⊥
+pub never-collects : (t : List ℕ) (s : Collector) (ys : List ℕ) → isLarge s ≡ true → Collects t s ys → ⊥
 unfolding isLarge Collects
 never-collects t (Len n) ys o h = let y : _≡_ {A = ℕ} 0 1 = cc in omega arith
 never-collects t Over ys o h = let y : _≡_ {A = ℕ} 0 1 = cc in omega arith

@@ -1,6 +1,6 @@
 -- Laws of carrying: what is fed and then marked is carried; one part after another; a tree too large ends the run.
 use mathlib.Core.Path.{_≡_, refl, sym, ap, ap₂, subst, _∙_}
-use mathlib.Core.List.{List, [], _∷_, _++_, append-nil, append-assoc, map-append}
+use mathlib.Core.List.{List, [], _++_, append-nil, append-assoc, map-append}
 use mathlib.Core.Bool.{true, false}
 use Prim.Native.Nat.{ℕ, _+_, _-_, _≤_, _<_}
 use native.Mathlib.Omega.{arith}
@@ -10,7 +10,7 @@ use Rattle.spec_trees.specs.Limits.{workMin}
 use Rattle.spec_trees.specs.Tree.{Tree}
 use Rattle.spec_trees.specs.Bytes.{bytes, treeFs}
 use Rattle.areas.specs.Area.{Is}
-use Rattle.areas.specs.AreaLaws.{take-less, is-part, is-keep, is-left, is-right}
+use Rattle.areas.specs.AreaLaws.{take-less, is-part, is-keep, is-right}
 use Rattle.spec_queries.specs.Query.{Stage}
 use Rattle.queries.specs.Places.{arrayTrees}
 use Rattle.paths.specs.ComparedLaws.{is-none, trees-append}
@@ -26,6 +26,7 @@ use Rattle.positions.specs.BearingLaws.{bears-keep, bears-append, bears-beyond}
 use Rattle.stream.specs.declared.collector.Collector.{Collector}
 use Rattle.stream.specs.declared.collector.Collector.the-variants.{Len, Over, Large}
 use Rattle.stream.specs.Collector.{isLarge, Collects, Open, Fed, Feeds}
+use Rattle.stream.specs.CollectorLaws.{never-collects}
 use Rattle.stretch.specs.Carry.{lentArea, Holds, Taken, Carries, Shows, SinceReady, MarkedSince}
 
 -- ---- the collector of the lent area
@@ -78,18 +79,6 @@ holds-nothing w l = (is-none (omega arith), omega arith, tt)
 pub clash : {P : Type 0} {s : Collector} → isLarge s ≡ false → s ≡ Large → P
 unfolding isLarge
 clash {s = s} o e = let z : isLarge s ≡ true = ap isLarge e in let y : _≡_ {A = ℕ} 0 1 = cc in absurd (omega arith)
-
-never-holds : (w : List ℕ) (s : Collector) (bs : List Borne) → isLarge s ≡ true → Holds w s bs → ⊥
-unfolding isLarge Holds
-never-holds w (Len n) bs o h = let y : _≡_ {A = ℕ} 0 1 = cc in omega arith
-never-holds w Over bs o h = let y : _≡_ {A = ℕ} 0 1 = cc in omega arith
-never-holds w Large bs o h = h
-
-never-collects : (w : List ℕ) (s : Collector) (xs : List ℕ) → isLarge s ≡ true → Collects w s xs → ⊥
-unfolding isLarge Collects
-never-collects w (Len n) xs o h = let y : _≡_ {A = ℕ} 0 1 = cc in omega arith
-never-collects w Over xs o h = let y : _≡_ {A = ℕ} 0 1 = cc in omega arith
-never-collects w Large xs o h = h
 
 -- what is carried is taken behind what was held
 pub carries-holds : {w v : List ℕ} {s r : Collector} (st : State) (bs cs : List Borne) → Carries w s v r st bs → isLarge r ≡ false → Holds w s cs → Holds v r (cs ++ bs)

@@ -42,7 +42,7 @@ use Rattle.stretch.specs.declared.next.StretchAt.{StretchAt}
 use Rattle.stretch.specs.Carry.{Position, Positions, Holds, Taken, Shows}
 use Rattle.stretch.specs.CarryLaws.{clash}
 use Rattle.stretches.specs.Ended.{HeldIs, FullIs, EndedIs}
-use Rattle.group_stretch.specs.Group.{GroupPlan, Stems, GroupReady, GroupPost, through, borneThrough}
+use Rattle.group_stretch.specs.Group.{Stems, GroupReady, GroupPost, through, borneThrough}
 use Rattle.stretch.specs.Next.{StretchIs, NextPost}
 use Rattle.stretches.specs.Later.{Allows, LastPost, HeldReady, HeldPost, LaterReady, LaterPost}
 

@@ -1,14 +1,14 @@
 //! The opponent: the same run in plain safe Rust, written by hand for speed.
 //!
-//! It makes every test that documents 01 and 02 ask for, in their order, and leaves the areas as their table
-//! says, positions among them, so that it does what the engine does and no less: it answers as crate `reference` does on random cases,
-//! refusals among them. It reads queries and trees where they stand; a tree goes through the stages of a
-//! stretch before the next one is begun, and what a stage makes stands in a buffer that the next tree takes
-//! over. Unlike the engine it takes memory from the heap, a few times for a stage and never for a tree,
-//! except to compare two paths that both have two or more labels; so it does not use the work area, and only
-//! clears it. And it groups and joins through hash maps. It is not proved, and it is not the fastest that
-//! could be written: it has no unsafe code, no instructions of one machine, and keeps nothing from one run to
-//! the next.
+//! It makes every test that documents 01 and 02 ask for, in their order, and leaves the areas as their
+//! table says, positions among them, so that it does what the engine does and no less: it answers as crate
+//! `reference` does on random cases, refusals among them. It reads queries and trees where they stand; a
+//! tree goes through the stages of a stretch before the next one is begun, and what a stage makes stands in
+//! a buffer that the next tree takes over. Unlike the engine it takes memory from the heap, a few times for
+//! a stage and never for a tree, except to compare two paths that both have two or more labels; so it does
+//! not use the work area, and only clears it. And it groups and joins through hash maps. It is not proved,
+//! and it is not the fastest that could be written: it has no unsafe code, no instructions of one machine,
+//! and keeps nothing from one run to the next.
 
 mod bytes;
 mod index;

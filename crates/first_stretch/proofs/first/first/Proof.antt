@@ -1,10 +1,5 @@
 -- Made from Proof.ans by answers.py, which overwrites this file: edit Proof.ans.
-use Rattle.first_stretch.specs.FirstLaws.{
-  first-stages,
-  first-long,
-  first-standing,
-  first-copied,
-}
+use Rattle.first_stretch.specs.FirstLaws.{first-stages, first-standing, first-copied}
 use borrow.Author.Needs.{needs}
 use Rattle.first_stretch.proofs.first.first.Statement.{statement}
 use Rattle.first_stretch.proofs.first.first.Tie as tie

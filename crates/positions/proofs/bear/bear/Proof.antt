@@ -26,17 +26,25 @@ loop-holds c = law.bear-begin (c .before .pre .0)
 
 add-field-end : tie.Need-add-field-end Inv-loop μ-loop
 add-field-end c =
-    omega (arith, law.bear-places (c .before .before .loop .inv) (c .before .loop-test .taken) refl)
+    omega (
+      arith,
+      law.standing-places (c .before .before .loop .inv .left)
+          (c .before .loop-test .taken) refl,
+    )
 
 field-end-requires : tie.Need-field-end-requires Inv-loop μ-loop
 field-end-requires c κs =
-    omega (arith, law.bear-places (c .before .before .loop .inv) (c .before .loop-test .taken) refl)
+    omega (
+      arith,
+      law.standing-places (c .before .before .loop .inv .left)
+          (c .before .loop-test .taken) refl,
+    )
 
 sub-m : tie.Need-sub-m Inv-loop μ-loop
 sub-m c =
     omega (
       arith,
-      (law.bear-places (c .before .before .before .loop .inv)
+      (law.standing-places (c .before .before .before .loop .inv .left)
           (c .before .before .loop-test .taken) (c .field-end .ensures)),
     )
 
@@ -44,7 +52,7 @@ place-requires : tie.Need-place-requires Inv-loop μ-loop
 place-requires c κs =
     omega (
       arith,
-      (law.bear-places (c .before .before .before .before .loop .inv)
+      (law.standing-places (c .before .before .before .before .loop .inv .left)
           (c .before .before .before .loop-test .taken) (c .before .field-end .ensures)),
     )
 
@@ -52,13 +60,14 @@ put-two-requires : tie.Need-put-two-requires Inv-loop μ-loop
 put-two-requires c κs = (
   omega (
     arith,
-    (law.bear-places (c .before .before .before .before .before .loop .inv)
+    (law.standing-places
+        (c .before .before .before .before .before .loop .inv .left)
         (c .before .before .before .before .loop-test .taken)
         (c .before .before .field-end .ensures)),
   ),
   omega (
     arith,
-    (law.bear-places (c .before .before .before .before .before .loop .inv)
+    (law.standing-places (c .before .before .before .before .before .loop .inv .left)
         (c .before .before .before .before .loop-test .taken) (c .before .before .field-end .ensures)),
     c .before .before .before .before .before .loop .inv .low,
     c .before .before .before .before .before .before .before .pre .1,
@@ -69,8 +78,8 @@ add-position : tie.Need-add-position Inv-loop μ-loop
 add-position c =
     omega (
       arith,
-      (law.bear-places
-          (c .before .before .before .before .before .before .before .before .loop .inv)
+      (law.standing-places
+          (c .before .before .before .before .before .before .before .before .loop .inv .left)
           (c .before .before .before .before .before .before .before .loop-test .taken)
           (c .before .before .before .before .before .field-end .ensures)),
       c .before .before .before .before .before .before .before .before .loop .inv .low,
@@ -82,8 +91,8 @@ loop-less : tie.Need-loop-less Inv-loop μ-loop
 loop-less c =
     omega (
       arith,
-      (law.bear-places
-          (c .before .before .before .before .before .before .before .before .loop .inv)
+      (law.standing-places
+          (c .before .before .before .before .before .before .before .before .loop .inv .left)
           (c .before .before .before .before .before .before .before .loop-test .taken)
           (c .before .before .before .before .before .field-end .ensures)),
     )

@@ -3,6 +3,7 @@ use borrow.Author.Needs.{needs}
 use mathlib.Core.Path.{refl}
 use Prim.Native.Nat.{_-_}
 use native.Mathlib.Omega.{arith}
+use Rattle.positions.specs.BearingLaws.{standing-places}
 use Rattle.positions.specs.EntriesLaws as law
 use Rattle.positions.proofs.entries.write_entries.Statement.{statement}
 use Rattle.positions.proofs.entries.write_entries.Tie as tie
@@ -21,27 +22,28 @@ loop-holds : tie.Need-loop-holds Inv-loop μ-loop
 loop-holds c = law.entries-begin (c .before .before .pre .0)
 
 add-field-end : tie.Need-add-field-end Inv-loop μ-loop
-add-field-end c = omega (arith, law.entry-places (c .before .loop .inv) (c .loop-test .taken) refl)
+add-field-end c =
+    omega (arith, standing-places (c .before .loop .inv .left) (c .loop-test .taken) refl)
 
 field-end-requires : tie.Need-field-end-requires Inv-loop μ-loop
 field-end-requires c κs =
-    omega (arith, law.entry-places (c .before .loop .inv) (c .loop-test .taken) refl)
+    omega (arith, standing-places (c .before .loop .inv .left) (c .loop-test .taken) refl)
 
 sub-m : tie.Need-sub-m Inv-loop μ-loop
 sub-m c =
     omega (
       arith,
-      (law.entry-places (c .before .before .loop .inv) (c .before .loop-test .taken)
-          (c .field-end .ensures)),
+      (standing-places (c .before .before .loop .inv .left)
+          (c .before .loop-test .taken) (c .field-end .ensures)),
     )
 
 position-at-requires : tie.Need-position-at-requires Inv-loop μ-loop
 position-at-requires c κs = (
-  law.entry-places (c .before .before .loop .inv) (c .before .loop-test .taken) refl .3,
+  standing-places (c .before .before .loop .inv .left) (c .before .loop-test .taken) refl .3,
   omega (
     arith,
-    (law.entry-places (c .before .before .loop .inv) (c .before .loop-test .taken)
-        (c .field-end .ensures)),
+    (standing-places (c .before .before .loop .inv .left)
+        (c .before .loop-test .taken) (c .field-end .ensures)),
   ),
 )
 
@@ -63,7 +65,7 @@ loop-less : tie.Need-loop-less Inv-loop μ-loop
 loop-less c =
     omega (
       arith,
-      (law.entry-places (c .before .before .before .loop .inv)
+      (standing-places (c .before .before .before .loop .inv .left)
           (c .before .before .loop-test .taken) (c .before .field-end .ensures)),
     )
 
