@@ -1,8 +1,6 @@
 -- Definitions.
 pub mod Area
-pub mod Compare
 pub mod Number
 -- Laws.
 pub mod AreaLaws
-pub mod CompareLaws
 pub mod NumberLaws

@@ -1,5 +1,5 @@
 //! Numbers as bytes, high byte first: lengths and divisors in two, and integers in eight, which are kept as their 64
-//! bits. Whoever reads or writes a number of several bytes does it here.
+//! bits. Whoever reads or writes such a number does it here.
 ghost use mathlib.Core.Path.{_≡_};
 ghost use Prim.Native.Nat.{_+_, _≤_, _<_};
 ghost use lib.ListN.{length};

@@ -1,5 +1,5 @@
 //! The words in which the test programs report.
-use crate::compare::Verdict;
+use crate::trial::Verdict;
 
 /// Writes what a verdict says.
 pub fn say_verdict(verdict: Verdict) {
@@ -11,6 +11,8 @@ pub fn say_verdict(verdict: Verdict) {
         Verdict::Rest => io::write_all(1, b"rest of the result area differs"),
         Verdict::Positions => io::write_all(1, b"position area differs"),
         Verdict::Work => io::write_all(1, b"work area differs"),
+        Verdict::Outcome => io::write_all(1, b"outcome differs"),
+        Verdict::Steps => io::write_all(1, b"count of steps differs"),
         Verdict::Malformed => io::write_all(1, b"malformed"),
     }
     ;

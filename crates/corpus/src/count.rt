@@ -2,9 +2,9 @@
 ghost use Prim.Native.Nat.{_≤_};
 use crate::turn::Turn;
 use crate::turn::next_case;
-use cases::compare::Verdict;
 use cases::report::say_total;
 use cases::report::say_verdict;
+use cases::trial::Verdict;
 
 /// The line of a case that differs.
 fn say_differs(case: u64, verdict: Verdict) {

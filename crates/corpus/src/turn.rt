@@ -2,11 +2,11 @@
 use crate::record::Part;
 use crate::record::read_number;
 use crate::record::read_part;
-use cases::compare::Call;
-use cases::compare::Case;
-use cases::compare::Verdict;
-use cases::compare::compare;
 use cases::positions::least_entries;
+use cases::trial::Call;
+use cases::trial::Case;
+use cases::trial::Verdict;
+use cases::trial::compare;
 
 /// The case was compared; or there was no record more; or it is cut short, or has a length past the buffer.
 pub enum Turn {

@@ -6,7 +6,7 @@
 //! those who call for it.
 ghost use mathlib.Core.Path.{_≡_};
 ghost use Rattle.spec_trees.specs.Bytes.{treeBytes};
-ghost use Rattle.areas.specs.Compare.{sameBytes};
+ghost use Rattle.compare.specs.Compare.{sameBytes};
 ghost use Rattle.format.specs.Stand.{treesBytes};
 ghost use Rattle.queries.specs.Places.{HoldsAt};
 ghost use Prim.Native.Nat.{_≤_};
@@ -20,8 +20,8 @@ use crate::path::nth;
 use crate::path::operand;
 use crate::path::piece;
 use crate::path::present;
-use areas::compare::same_bytes;
 use areas::span::Span;
+use compare::compare::same_bytes;
 use format::labels::Found;
 use queries::path::steps;
 

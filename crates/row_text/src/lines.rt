@@ -4,7 +4,7 @@ ghost use Prim.Native.Nat.{_<_, _≤_};
 ghost use lib.ListN.{length};
 use crate::parts::behind;
 use crate::parts::front;
-use areas::compare::same_bytes;
+use compare::compare::same_bytes;
 
 /// The byte at a place. Behind the end a line feed, so that a last line that has none ends too.
 pub fn byte_at(text: &[u8], at: usize) -> u8 {

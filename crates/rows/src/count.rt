@@ -2,9 +2,9 @@
 ghost use Prim.Native.Nat.{_≤_};
 use crate::row::row_name;
 use crate::row::row_verdict;
-use cases::compare::Verdict;
 use cases::report::say_total;
 use cases::report::say_verdict;
+use cases::trial::Verdict;
 use row_text::lines::Kind;
 use row_text::lines::find_line;
 use row_text::lines::next_line;

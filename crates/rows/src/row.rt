@@ -1,11 +1,12 @@
 //! A row: its name, its call with the arguments, and what is expected.
-use cases::compare::Call;
-use cases::compare::Case;
-use cases::compare::Check;
-use cases::compare::Verdict;
-use cases::compare::compare;
-use cases::compare::compare_check;
+use cases::comparing::compare_copy;
 use cases::positions::least_entries;
+use cases::trial::Call;
+use cases::trial::Case;
+use cases::trial::Check;
+use cases::trial::Verdict;
+use cases::trial::compare;
+use cases::trial::compare_check;
 use row_text::lines::begins;
 use row_text::lines::line_end;
 use row_text::lines::next_line;
@@ -84,6 +85,20 @@ fn check_row(row: &[u8], place: Place, check: Check) -> Verdict {
     compare_check(check, front(&bytes, n.end), n.value as u64)
 }
 
+/// The verdict of a row that compares bytes with their copy, for which they are read twice.
+fn compare_row(row: &[u8], place: Place) -> Verdict {
+    let mut bytes = [0u8; BYTES];
+    let mut copy = [0u8; BYTES];
+    let start = line_feed(row, place);
+    let b = argument(row, start, b"bytes ", &mut bytes);
+    let c = argument(row, start, b"bytes ", &mut copy);
+    let n = line_feed(row, number(row, word(row, b, b"steps")));
+    if !is_read(row, n) || b.end != c.end {
+        return Verdict::Malformed;
+    }
+    compare_copy(front(&bytes, n.end), &mut copy, n.value)
+}
+
 /// The first array of a call.
 fn first_array(row: &[u8], place: Place, call: Call, bytes: &mut [u8]) -> Place {
     match call {
@@ -147,6 +162,10 @@ pub fn row_verdict(row: &[u8]) -> Verdict {
     let q = word(row, place, b"check-query");
     if q.sound {
         return check_row(row, q, Check::Query);
+    }
+    let c = word(row, place, b"compare");
+    if c.sound {
+        return compare_row(row, c);
     }
     let g = word(row, place, b"regroup");
     if g.sound {

@@ -51,7 +51,7 @@ pattern-lt (pos n) h = omega arith
 pattern-lt (negsuc n) h = omega arith
 
 -- ---- read and written
-low-form : (c : List ℕ) → AllBytes c → low (length c) (lowValue c) ≡ c
+pub low-form : (c : List ℕ) → AllBytes c → low (length c) (lowValue c) ≡ c
 unfolding low lowValue
 low-form [] h = refl
 low-form (x ∷ c) h =

@@ -34,7 +34,7 @@ impl Kind {
     }
 }
 
-pub const KINDS: [Kind; 15] = [
+pub const KINDS: [Kind; 16] = [
     Kind::new("the paper's seven stages", paper::pipeline),
     Kind::new("match and project", match_project),
     Kind::new("two unwinds and a match", two_unwinds),
@@ -45,6 +45,7 @@ pub const KINDS: [Kind; 15] = [
     Kind::new("lookup, unique keys", lookup_unique),
     Kind::new("lookup, one hot key", lookup_hot),
     Kind::new("group by two keys, lookup", group_lookup),
+    Kind::new("long texts: matches, lookup", long_texts),
     Kind::new("deep merges", deep_merges),
     Kind::new("no stage: checking", checking),
     Kind::new("no stage: bare trees", bare_trees),
@@ -172,6 +173,21 @@ fn group_lookup(n: usize) -> Case {
     ];
     let other = |i: i64| void(&[(2, vec![lens(i)]), (6, vec![integer(i)])]);
     Case { query: query(&stages), input: filled(n, job), joined: filled(400.min(n), other) }
+}
+
+/// Texts as long as they may be, which are equal or differ in their last byte. Of eight trees seven have two equal
+/// ones, and one goes on to a lookup, where every other joined tree is its partner.
+fn long_texts(n: usize) -> Case {
+    let long = |i: i64| text(&format!("{}{i}", "x".repeat(254)));
+    let record = |i: i64| void(&[(1, vec![long(i % 8 / 7)]), (2, vec![long(0)]), (3, vec![integer(i)])]);
+    let other = |i: i64| void(&[(1, vec![long(i % 2)])]);
+    let stages = [
+        matching(either(equal(&[1], &[long(0)]), equal(&[1], &[long(1)]))),
+        matching(both(equal(&[2], &[long(0)]), not(equal(&[2], &[long(1)])))),
+        matching(not(same(&[1], &[2]))),
+        lookup(&[2], &[1], &[9]),
+    ];
+    Case { query: query(&stages), input: filled(n, record), joined: filled(1400.min(n), other) }
 }
 
 /// Each item holds the same labels four levels deep, so that every merge goes to the bottom.

@@ -122,11 +122,12 @@ impl Iterator for Cases {
 type Kind<C> = fn(&mut Random) -> Option<C>;
 
 /// The kinds of cases, and how often each is drawn, in thousand.
-const KINDS: [(usize, Kind<Case>); 21] = [
-    (270, |random| ordinary(random).case()),
+const KINDS: [(usize, Kind<Case>); 22] = [
+    (205, |random| ordinary(random).case()),
     (90, |random| groups(random).case()),
     (40, |random| groups_of_groups(random).case()),
     (70, |random| lookups(random).case()),
+    (30, |random| near_values(random).case()),
     (50, |random| long_paths(random).case()),
     (40, |random| nestings(random).case()),
     (30, |random| counts(random).case()),
@@ -299,6 +300,50 @@ fn lookups(random: &mut Random) -> Draft {
     let mut stages = vec![Stage::Lookup { q: source(random, q), r: source(random, r), p }];
     around(random, &mut stages, &input);
     Draft { stages, input, joined }
+}
+
+/// Values of any length that are the same or differ in one byte, compared by
+/// paths and literals, in a group and in a lookup.
+fn near_values(random: &mut Random) -> Draft {
+    let values = nearly_equal(random);
+    let trees = |random: &mut Random, most| -> Vec<Tree> {
+        let value = |random: &mut Random| random.pick(&values);
+        let record = |random: &mut Random| Tree::void().with(1, value(random)).with(2, value(random));
+        (0..random.between(1, most)).map(|_| record(random)).collect()
+    };
+    let (input, joined) = (trees(random, 8), trees(random, 4));
+    let mut stages = Vec::new();
+    for _ in 0..random.between(1, 3) {
+        stages.push(match random.below(4) {
+            0 => Stage::Match(Criterion::Same(vec![1], vec![2])),
+            1 => Stage::Match(Criterion::Not(Box::new(Criterion::Equal(vec![1], random.pick(&values))))),
+            2 => Stage::Lookup { q: vec![1], r: vec![2], p: vec![3] },
+            _ => {
+                let pair = |label: u8| Pair { source: vec![label], destination: vec![label] };
+                Stage::Group { aggregates: vec![pair(2)], grouping: vec![pair(1)] }
+            }
+        });
+    }
+    Draft { stages, input, joined }
+}
+
+/// A value of texts, and some that differ from it in one byte of one text.
+fn nearly_equal(random: &mut Random) -> Vec<Vec<Tree>> {
+    let most = random.pick(&[3, 10, 30, 30, TEXT_LIMIT]);
+    let text = |random: &mut Random| -> Vec<u8> {
+        (0..random.between(1, most)).map(|_| random.bits() as u8).collect()
+    };
+    let texts: Vec<Vec<u8>> = (0..random.pick(&[1, 1, 1, 2, 3])).map(|_| text(random)).collect();
+    let value = |texts: &[Vec<u8>]| texts.iter().map(|bytes| Tree::text(bytes)).collect();
+    let mut values = vec![value(&texts)];
+    for _ in 0..random.between(1, 3) {
+        let mut other = texts.clone();
+        let changed = random.below(other.len());
+        let at = random.below(other[changed].len());
+        other[changed][at] ^= 1 << random.below(8);
+        values.push(value(&other));
+    }
+    values
 }
 
 /// Paths of up to eight labels over trees as deep.

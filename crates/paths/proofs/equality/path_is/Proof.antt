@@ -10,7 +10,7 @@ use Rattle.paths.proofs.equality.path_is.Statement.{statement}
 use Rattle.paths.proofs.equality.path_is.Tie as tie
 use Rattle.paths.proofs.equality.path_is.Reads as reads
 use Rattle.paths.proofs.equality.path_is.Lts as lts
-use Rattle.areas.proofs.compare.same_bytes.Reads as same-bytes-reads
+use Rattle.compare.proofs.compare.same_bytes.Reads as same-bytes-reads
 use Rattle.paths.proofs.equality.gives.Reads as gives-reads
 use Rattle.paths.proofs.path.piece.Reads as piece-reads
 use Rattle.paths.proofs.path.present.Reads as present-reads

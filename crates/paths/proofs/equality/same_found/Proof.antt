@@ -6,7 +6,7 @@ use Rattle.paths.proofs.equality.same_found.Statement.{statement}
 use Rattle.paths.proofs.equality.same_found.Tie as tie
 use Rattle.paths.proofs.equality.same_found.Reads as reads
 use Rattle.paths.proofs.equality.same_found.Lts as lts
-use Rattle.areas.proofs.compare.same_bytes.Reads as same-bytes-reads
+use Rattle.compare.proofs.compare.same_bytes.Reads as same-bytes-reads
 use Rattle.paths.proofs.equality.is_part.Reads as is-part-reads
 
 enum-known-second : tie.Need-enum-known-second

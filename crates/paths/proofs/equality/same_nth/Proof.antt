@@ -7,7 +7,7 @@ use Rattle.paths.proofs.equality.same_nth.Statement.{statement}
 use Rattle.paths.proofs.equality.same_nth.Tie as tie
 use Rattle.paths.proofs.equality.same_nth.Reads as reads
 use Rattle.paths.proofs.equality.same_nth.Lts as lts
-use Rattle.areas.proofs.compare.same_bytes.Reads as same-bytes-reads
+use Rattle.compare.proofs.compare.same_bytes.Reads as same-bytes-reads
 use Rattle.paths.proofs.path.nth.Reads as nth-reads
 
 nth-requires : tie.Need-nth-requires

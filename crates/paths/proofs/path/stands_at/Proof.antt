@@ -6,7 +6,7 @@ use Rattle.paths.proofs.path.stands_at.Statement.{statement}
 use Rattle.paths.proofs.path.stands_at.Tie as tie
 use Rattle.paths.proofs.path.stands_at.Reads as reads
 use Rattle.paths.proofs.path.stands_at.Lts as lts
-use Rattle.areas.proofs.compare.same_bytes.Reads as same-bytes-reads
+use Rattle.compare.proofs.compare.same_bytes.Reads as same-bytes-reads
 
 sub-n : tie.Need-sub-n
 sub-n c = search needs

@@ -7,11 +7,11 @@ use Rattle.rows.proofs.count.count.Statement.{statement}
 use Rattle.rows.proofs.count.count.Tie as tie
 use Rattle.rows.proofs.count.count.Reads as reads
 use Rattle.rows.proofs.count.count.Lts as lts
-use Rattle.row_text.proofs.parts.part.Reads as part-reads
 use Rattle.cases.proofs.report.say_total.Reads as say-total-reads
-use Rattle.rows.proofs.count.counted.Reads as counted-reads
 use Rattle.row_text.proofs.lines.find_line.Reads as find-line-reads
 use Rattle.row_text.proofs.lines.next_line.Reads as next-line-reads
+use Rattle.row_text.proofs.parts.part.Reads as part-reads
+use Rattle.rows.proofs.count.counted.Reads as counted-reads
 use Rattle.rows.proofs.row.row_verdict.Reads as row-verdict-reads
 
 abbrev Inv-loop : tie.InvT-loop

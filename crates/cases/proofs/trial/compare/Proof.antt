@@ -2,11 +2,11 @@
 use mathlib.Core.Path.{sym}
 use lib.Seq.{length-take-le}
 use borrow.Author.Needs.{needs}
-use Rattle.cases.proofs.compare.compare.Statement.{statement}
-use Rattle.cases.proofs.compare.compare.Tie as tie
-use Rattle.cases.proofs.compare.compare.Reads as reads
-use Rattle.cases.proofs.compare.compare.Lts as lts
-use Rattle.cases.proofs.compare.compare_in.Reads as compare-in-reads
+use Rattle.cases.proofs.trial.compare.Statement.{statement}
+use Rattle.cases.proofs.trial.compare.Tie as tie
+use Rattle.cases.proofs.trial.compare.Reads as reads
+use Rattle.cases.proofs.trial.compare.Lts as lts
+use Rattle.cases.proofs.trial.compare_in.Reads as compare-in-reads
 
 returns : tie.Need-returns
 returns c = search needs

@@ -2,7 +2,7 @@
 //! the result area full of 187 and the position area full of 43690, so that whatever changed is seen.
 use crate::positions::FILLED;
 use crate::positions::entries_are;
-use areas::compare::same_bytes;
+use compare::compare::same_bytes;
 use engine::answer::check_number;
 use engine::answer::length;
 use engine::answer::number;
@@ -39,6 +39,10 @@ pub enum Verdict {
     Positions,
     /// The work area.
     Work,
+    /// Stretches that are the same are told apart, or others are not, or in too many steps.
+    Outcome,
+    /// Another count of steps.
+    Steps,
     /// None of these: the case cannot be read, or asks for longer areas than there are.
     Malformed,
 }

@@ -1,0 +1,5 @@
+-- Definitions.
+pub mod Compare
+-- Laws.
+pub mod CompareLaws
+pub mod WordLaws

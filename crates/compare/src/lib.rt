@@ -1,0 +1,3 @@
+//! Bytes compared, eight a step.
+pub mod compare;
+mod words;
