@@ -32,8 +32,8 @@ use Rattle.spec_run.specs.Answer.{numbered, lengthened, Answered, AnswersAs}
 use Rattle.spec_run.specs.AnswerLaws.{AnsweredBy, by-run}
 use Rattle.checks.specs.Check.{callCheck, Early}
 use Rattle.checks.specs.CheckLaws.{passed-reads, refused-early}
-use Rattle.engine.specs.Finish.{FinishReady, Finishes}
-use Rattle.engine.specs.Lines.{ComesTo, LinesReady, Lines}
+use Rattle.finish.specs.Finish.{FinishReady, Finishes}
+use Rattle.finish.specs.Lines.{ComesTo, LinesReady, Lines}
 use Rattle.engine.specs.Perform.{Performs}
 
 -- ---- the outcome, by the verdict x on a result area and a work area

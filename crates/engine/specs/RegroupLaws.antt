@@ -25,7 +25,7 @@ use Rattle.spec_run.specs.AnswerLaws.{by-regroup}
 use Rattle.checks.specs.declared.check.RegroupCheck.{RegroupCheck}
 use Rattle.checks.specs.RegroupCheck.{RegroupChecked}
 use Rattle.checks.specs.RegroupCheckLaws.{such-is}
-use Rattle.engine.specs.Finish.{FinishReady, Finishes}
+use Rattle.finish.specs.Finish.{FinishReady, Finishes}
 use Rattle.engine.specs.Perform.{PerformsAgain}
 use Rattle.engine.specs.PerformLaws.{ended-answered, early-answered}
 

@@ -5,7 +5,7 @@ use Rattle.engine.proofs.regroup.perform_again.Statement.{statement}
 use Rattle.engine.proofs.regroup.perform_again.Tie as tie
 use Rattle.engine.proofs.regroup.perform_again.Reads as reads
 use Rattle.engine.proofs.regroup.perform_again.Lts as lts
-use Rattle.engine.proofs.finish.finish.Reads as finish-reads
+use Rattle.finish.proofs.finish.finish.Reads as finish-reads
 use Rattle.regrouping.proofs.joined_group.joined_group.Reads as joined-group-reads
 
 joined-group-requires : tie.Need-joined-group-requires

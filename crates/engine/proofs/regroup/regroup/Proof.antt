@@ -15,8 +15,8 @@ use Rattle.engine.proofs.regroup.regroup.Reads as reads
 use Rattle.engine.proofs.regroup.regroup.Lts as lts
 use Rattle.areas.proofs.area.clear.Reads as clear-reads
 use Rattle.checks.proofs.check.check_regroup.Reads as check-regroup-reads
-use Rattle.engine.proofs.finish.refuse.Reads as refuse-reads
 use Rattle.engine.proofs.regroup.perform_again.Reads as perform-again-reads
+use Rattle.finish.proofs.finish.refuse.Reads as refuse-reads
 
 check-regroup-requires : tie.Need-check-regroup-requires
 check-regroup-requires c κs = search needs

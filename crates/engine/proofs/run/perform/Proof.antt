@@ -6,8 +6,8 @@ use Rattle.engine.proofs.run.perform.Statement.{statement}
 use Rattle.engine.proofs.run.perform.Tie as tie
 use Rattle.engine.proofs.run.perform.Reads as reads
 use Rattle.engine.proofs.run.perform.Lts as lts
-use Rattle.engine.proofs.finish.finish.Reads as finish-reads
-use Rattle.engine.proofs.lines.write_positions.Reads as write-positions-reads
+use Rattle.finish.proofs.finish.finish.Reads as finish-reads
+use Rattle.finish.proofs.lines.write_positions.Reads as write-positions-reads
 use Rattle.stretches.proofs.all.all.Reads as all-reads
 
 all-requires : tie.Need-all-requires

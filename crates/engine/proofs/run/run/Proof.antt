@@ -22,8 +22,8 @@ use Rattle.engine.proofs.run.run.Reads as reads
 use Rattle.engine.proofs.run.run.Lts as lts
 use Rattle.areas.proofs.area.clear.Reads as clear-reads
 use Rattle.checks.proofs.check.check_call.Reads as check-call-reads
-use Rattle.engine.proofs.finish.refuse.Reads as refuse-reads
 use Rattle.engine.proofs.run.perform.Reads as perform-reads
+use Rattle.finish.proofs.finish.refuse.Reads as refuse-reads
 
 check-call-requires : tie.Need-check-call-requires
 check-call-requires c κs = search needs

@@ -30,8 +30,8 @@ use Rattle.spec_run.specs.declared.answer.Answer.the-variants.{Accepted, Refuse
 use Rattle.spec_run.specs.Run.{Verdict, gives, refused, final, numberIn, lengthIn, zeros, positionsAfter}
 use Rattle.spec_run.specs.RunLaws.{refusal-number, accepts-gives, final-out}
 use Rattle.spec_run.specs.Answer.{numbered, lengthened}
-use Rattle.engine.specs.Lines.{ComesTo, LinesReady, Lines}
-use Rattle.engine.specs.FinishLaws.{bytes-size, held-length}
+use Rattle.finish.specs.Lines.{ComesTo, LinesReady, Lines}
+use Rattle.finish.specs.FinishLaws.{bytes-size, held-length}
 
 -- ---- accepted
 -- the stages ended with an array, whose trees the collector holds

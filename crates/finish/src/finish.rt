@@ -8,7 +8,7 @@ ghost use lib.ListN.{length, replicate};
 ghost use Rattle.spec_trees.specs.Limits.{arrayMax};
 ghost use Rattle.areas.specs.Area.{headBytes};
 ghost use Rattle.spec_run.specs.Refusal.{keepsWork};
-ghost use Rattle.engine.specs.Finish.{AcceptReady, Accepts, FinishReady, Finishes};
+ghost use Rattle.finish.specs.Finish.{AcceptReady, Accepts, FinishReady, Finishes};
 use areas::area::clear;
 use areas::area::emit;
 use areas::area::put_head;

@@ -1,12 +1,12 @@
 -- Made from Proof.ans by answers.py, which overwrites this file: edit Proof.ans.
 use mathlib.Core.Path.{refl, sym, _∙_}
 use borrow.Author.Needs.{needs}
-use Rattle.engine.proofs.finish.refuse.Statement.{statement}
-use Rattle.engine.proofs.finish.refuse.Tie as tie
-use Rattle.engine.proofs.finish.refuse.Reads as reads
-use Rattle.engine.proofs.finish.refuse.Lts as lts
+use Rattle.finish.proofs.finish.refuse.Statement.{statement}
+use Rattle.finish.proofs.finish.refuse.Tie as tie
+use Rattle.finish.proofs.finish.refuse.Reads as reads
+use Rattle.finish.proofs.finish.refuse.Lts as lts
 use Rattle.areas.proofs.area.clear.Reads as clear-reads
-use Rattle.engine.proofs.finish.keeps_work.Reads as keeps-work-reads
+use Rattle.finish.proofs.finish.keeps_work.Reads as keeps-work-reads
 
 keeps-work-requires : tie.Need-keeps-work-requires
 keeps-work-requires c κs = search needs

@@ -1,11 +1,11 @@
 -- Made from Proof.ans by answers.py, which overwrites this file: edit Proof.ans.
 use native.Mathlib.Omega.{arith}
-use Rattle.engine.specs.LinesLaws.{entries-ready, entries-lines, refused-lines}
+use Rattle.finish.specs.LinesLaws.{entries-ready, entries-lines, refused-lines}
 use borrow.Author.Needs.{needs}
-use Rattle.engine.proofs.lines.write_positions.Statement.{statement}
-use Rattle.engine.proofs.lines.write_positions.Tie as tie
-use Rattle.engine.proofs.lines.write_positions.Reads as reads
-use Rattle.engine.proofs.lines.write_positions.Lts as lts
+use Rattle.finish.proofs.lines.write_positions.Statement.{statement}
+use Rattle.finish.proofs.lines.write_positions.Tie as tie
+use Rattle.finish.proofs.lines.write_positions.Reads as reads
+use Rattle.finish.proofs.lines.write_positions.Lts as lts
 use Rattle.positions.proofs.entries.clear_entries.Reads as clear-entries-reads
 use Rattle.positions.proofs.entries.write_entries.Reads as write-entries-reads
 

@@ -1,11 +1,11 @@
 -- Made from Proof.ans by answers.py, which overwrites this file: edit Proof.ans.
 use native.Mathlib.Omega.{arith}
-use Rattle.engine.specs.FinishLaws.{array-written}
+use Rattle.finish.specs.FinishLaws.{array-written}
 use borrow.Author.Needs.{needs}
-use Rattle.engine.proofs.finish.write_array.Statement.{statement}
-use Rattle.engine.proofs.finish.write_array.Tie as tie
-use Rattle.engine.proofs.finish.write_array.Reads as reads
-use Rattle.engine.proofs.finish.write_array.Lts as lts
+use Rattle.finish.proofs.finish.write_array.Statement.{statement}
+use Rattle.finish.proofs.finish.write_array.Tie as tie
+use Rattle.finish.proofs.finish.write_array.Reads as reads
+use Rattle.finish.proofs.finish.write_array.Lts as lts
 use Rattle.areas.proofs.area.emit.Reads as emit-reads
 use Rattle.areas.proofs.area.put_head.Reads as put-head-reads
 

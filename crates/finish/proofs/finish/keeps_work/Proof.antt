@@ -1,10 +1,10 @@
 -- Made from Proof.ans by answers.py, which overwrites this file: edit Proof.ans.
 use Rattle.spec_run.specs.Refusal.{keepsWork}
 use borrow.Author.Needs.{needs}
-use Rattle.engine.proofs.finish.keeps_work.Statement.{statement}
-use Rattle.engine.proofs.finish.keeps_work.Tie as tie
-use Rattle.engine.proofs.finish.keeps_work.Reads as reads
-use Rattle.engine.proofs.finish.keeps_work.Lts as lts
+use Rattle.finish.proofs.finish.keeps_work.Statement.{statement}
+use Rattle.finish.proofs.finish.keeps_work.Tie as tie
+use Rattle.finish.proofs.finish.keeps_work.Reads as reads
+use Rattle.finish.proofs.finish.keeps_work.Lts as lts
 
 enum-told : tie.Need-enum-told
 enum-told c = search needs

@@ -1,6 +1,6 @@
 -- Made from Proof.ans by answers.py, which overwrites this file: edit Proof.ans.
 use mathlib.Core.Path.{refl}
-use Rattle.engine.specs.FinishLaws.{
+use Rattle.finish.specs.FinishLaws.{
   held-accept,
   held-finish,
   failed-large,
@@ -8,12 +8,12 @@ use Rattle.engine.specs.FinishLaws.{
   failed-full,
 }
 use borrow.Author.Needs.{needs}
-use Rattle.engine.proofs.finish.finish.Statement.{statement}
-use Rattle.engine.proofs.finish.finish.Tie as tie
-use Rattle.engine.proofs.finish.finish.Reads as reads
-use Rattle.engine.proofs.finish.finish.Lts as lts
-use Rattle.engine.proofs.finish.accept.Reads as accept-reads
-use Rattle.engine.proofs.finish.fail.Reads as fail-reads
+use Rattle.finish.proofs.finish.finish.Statement.{statement}
+use Rattle.finish.proofs.finish.finish.Tie as tie
+use Rattle.finish.proofs.finish.finish.Reads as reads
+use Rattle.finish.proofs.finish.finish.Lts as lts
+use Rattle.finish.proofs.finish.accept.Reads as accept-reads
+use Rattle.finish.proofs.finish.fail.Reads as fail-reads
 
 enum-known-ended : tie.Need-enum-known-ended
 enum-known-ended c = search needs

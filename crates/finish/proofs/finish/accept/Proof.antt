@@ -4,14 +4,14 @@ use native.Mathlib.Omega.{arith}
 use lib.ListN.{take}
 use lib.Seq.{length-take-le}
 use Prim.Native.Nat.{_+_}
-use Rattle.engine.specs.FinishLaws.{failed-room, held-length, accepted-room, accept-lengths}
+use Rattle.finish.specs.FinishLaws.{failed-room, held-length, accepted-room, accept-lengths}
 use borrow.Author.Needs.{needs}
-use Rattle.engine.proofs.finish.accept.Statement.{statement}
-use Rattle.engine.proofs.finish.accept.Tie as tie
-use Rattle.engine.proofs.finish.accept.Reads as reads
-use Rattle.engine.proofs.finish.accept.Lts as lts
-use Rattle.engine.proofs.finish.fail.Reads as fail-reads
-use Rattle.engine.proofs.finish.write_array.Reads as write-array-reads
+use Rattle.finish.proofs.finish.accept.Statement.{statement}
+use Rattle.finish.proofs.finish.accept.Tie as tie
+use Rattle.finish.proofs.finish.accept.Reads as reads
+use Rattle.finish.proofs.finish.accept.Lts as lts
+use Rattle.finish.proofs.finish.fail.Reads as fail-reads
+use Rattle.finish.proofs.finish.write_array.Reads as write-array-reads
 
 add-if1 : tie.Need-add-if1
 add-if1 c = search needs

@@ -1,5 +1,5 @@
 //! The position area at the end of a run: an entry beside each tree of the result, or the area is cleared.
-ghost use Rattle.engine.specs.Lines.{LinesReady, Lines};
+ghost use Rattle.finish.specs.Lines.{LinesReady, Lines};
 use positions::entries::clear_entries;
 use positions::entries::write_entries;
 use spec_run::answer::Answer;

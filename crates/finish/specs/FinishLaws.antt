@@ -30,7 +30,7 @@ use Rattle.spec_run.specs.declared.answer.Answer.the-variants.{Accepted, Refuse
 use Rattle.spec_run.specs.Refusal.{keepsResult}
 use Rattle.spec_run.specs.Answer.{AnswersAs}
 use Rattle.spec_run.specs.Run.{final, zeros, numberIn, lengthIn, resultAfter}
-use Rattle.engine.specs.Finish.{AcceptReady, Accepts, FinishReady, Finishes}
+use Rattle.finish.specs.Finish.{AcceptReady, Accepts, FinishReady, Finishes}
 
 -- ---- the array is written: its head, and its trees behind it
 pub array-written : {out x v src : List ℕ} {r : Out} → length out ≡ length src + 3 → length x ≡ length out

@@ -1,0 +1,6 @@
+-- Definitions.
+pub mod Finish
+pub mod Lines
+-- Laws.
+pub mod FinishLaws
+pub mod LinesLaws
