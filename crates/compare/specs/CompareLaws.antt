@@ -73,9 +73,10 @@ module _ {a b : List ℕ} {i s : ℕ} (h : SameFrom a b i s) where
         left = omega (arith, h .left);
       }
 
-  -- all is compared
-  pub all-compared : i ≡ 0 → IsComparison a b (record { same = true; steps = s })
-  all-compared z =
+  -- no word is left
+  pub all-compared : i % 8 ≡ 0 → i < 8 → IsComparison a b (record { same = true; steps = s })
+  all-compared m n =
+      let z : i ≡ 0 = omega (arith, m, n) in
       let e : a ≡ b = subst (λ k. drop k a ≡ drop k b) z (h .same) in
       record {
         outcome = sym (equal-same a b e);

@@ -36,12 +36,14 @@ low-four-more n i s h =
     let d = low-next n (i + 3) (i + 4) s (omega arith) (omega arith) in
     omega (arith, a, b, c, d)
 
-pub low-four : (s : List ℕ) (i : ℕ) → i + 4 ≤ length s
-    → getD s i 0 + 256 * getD s (i + 1) 0 + 65536 * (getD s (i + 2) 0 + 256 * getD s (i + 3) 0) ≡ lowAt 4 s i
-low-four s i h = omega (arith, low-four-more 0 i s h, low-none s (i + 4))
+-- four bytes that were read
+pub low-four : (s : List ℕ) (i : ℕ) {a b c d : ℕ} → i + 4 ≤ length s → a ≡ getD s i 0 → b ≡ getD s (i + 1) 0 → c ≡ getD s (i + 2) 0 → d ≡ getD s (i + 3) 0
+    → a + 256 * b + 65536 * (c + 256 * d) ≡ lowAt 4 s i
+low-four s i h p q r t = omega (arith, low-four-more 0 i s h, low-none s (i + 4), p, q, r, t)
 
+-- two halves
 pub low-eight : (s : List ℕ) (i : ℕ) → i + 8 ≤ length s → lowAt 4 s i + 4294967296 * lowAt 4 s (i + 4) ≡ lowAt 8 s i
-low-eight s i h = omega (arith, low-four-more 4 i s (omega arith), low-four s i (omega arith))
+low-eight s i h = omega (arith, low-four-more 4 i s (omega arith), low-four s i (omega arith) refl refl refl refl)
 
 -- ---- tells its bytes
 

@@ -63,9 +63,7 @@ loop-again c = (
 )
 
 returns-2 : tie.Need-returns-2 Inv-loop μ-loop
-returns-2 c =
-    all-compared (c .before .loop .inv .0)
-    (omega (arith, c .before .loop .inv .1, c .loop-test .left))
+returns-2 c = all-compared (c .before .loop .inv .0) (c .before .loop .inv .1) (c .loop-test .left)
 
 pub compare-words-spec : {M : Type 1} → statement M
 compare-words-spec =

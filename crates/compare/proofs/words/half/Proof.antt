@@ -1,6 +1,5 @@
 -- Made from Proof.ans by answers.py, which overwrites this file: edit Proof.ans.
 use native.Mathlib.Omega.{arith}
-use mathlib.Core.Path.{_∙_}
 use Rattle.compare.specs.WordLaws.{low-four}
 use borrow.Author.Needs.{needs}
 use Rattle.compare.proofs.words.half.Statement.{statement}
@@ -62,15 +61,12 @@ add-result c = search needs
 
 returns : tie.Need-returns
 returns c = (
-  cc (
-    c .before .before .before .before .before .before .wide .ensures .0,
-    c .before .before .before .before .wide2 .ensures .0,
-    c .before .before .wide3 .ensures .0,
-    c .wide4 .ensures .0,
-  ) ∙ low-four
-      (c .before .before .before .before .before .before .before .before .before .args .area .now)
+  low-four (c .before .before .before .before .before .before .before .before .before .args .area .now)
       (c .before .before .before .before .before .before .before .before .before .args .at)
-      (c .before .before .before .before .before .before .before .before .before .pre),
+      (c .before .before .before .before .before .before .before .before .before .pre)
+      (c .before .before .before .before .before .before .wide .ensures .0)
+      (c .before .before .before .before .wide2 .ensures .0) (c .before .before .wide3 .ensures .0)
+      (c .wide4 .ensures .0),
   omega (
     arith,
     c .before .before .before .before .before .before .wide .ensures .1,
