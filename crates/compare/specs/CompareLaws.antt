@@ -5,11 +5,10 @@ use mathlib.Core.Bool.{Bool, true, false, _&&_}
 use Prim.Native.Nat.{ℕ, suc, _+_, _%_, _<_}
 use native.Mathlib.Numerals.{add-one}
 use native.Mathlib.Omega.{arith}
-use lib.ListN.{length, take, drop, getD, drop-of-length-le, take-append-drop}
+use lib.ListN.{length, drop, getD, drop-of-length-le, take-append-drop}
 use lib.Seq.{drop-cons, drop-drop}
 use lib.Dec.{eqb, eqb→eq}
 use Rattle.spec_trees.specs.OptionLaws.{T-and, T-true, true-T, eqb-same}
-use Rattle.compare.specs.declared.compare.Comparison.{Comparison}
 use Rattle.compare.specs.Compare.{sameBytes, lowAt, IsComparison, SameFrom}
 use Rattle.compare.specs.WordLaws.{Bytes, low-same}
 
@@ -62,10 +61,10 @@ module _ {a b : List ℕ} {i s : ℕ} (h : SameFrom a b i s) where
 
   -- a word
   pub word-compared : (j : ℕ) → i ≡ j + 8 → Bytes a → Bytes b → lowAt 8 a j ≡ lowAt 8 b j → SameFrom a b j (s + 1)
-  word-compared j z p q e =
-      let behind : drop 8 (drop j a) ≡ drop 8 (drop j b) =
-      drop-drop 8 j a ∙ subst (λ k. drop k a ≡ drop k b) z (h .same) ∙ sym (drop-drop 8 j b) in
-      let same-word = low-same 8 j a b p q (omega (arith, h .inside)) (omega (arith, h .inside, h .lengths)) e in
+  word-compared j z ba bb e =
+      let q : drop (j + 8) a ≡ drop (j + 8) b = subst (λ k. drop k a ≡ drop k b) z (h .same) in
+      let behind : drop 8 (drop j a) ≡ drop 8 (drop j b) = drop-drop 8 j a ∙ q ∙ sym (drop-drop 8 j b) in
+      let same-word = low-same 8 j a b ba bb (omega (arith, h .inside)) (omega (arith, h .inside, h .lengths)) e in
       record {
         lengths = h .lengths;
         inside = omega (arith, h .inside);
