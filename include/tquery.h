@@ -140,7 +140,7 @@
  * ones, with a return address and the arguments on the stack counted in, six
  * of tquery_run and four of tquery_regroup:
  *
- *     tquery_run          8,848 bytes
+ *     tquery_run          8,720 bytes
  *     tquery_regroup      2,816 bytes
  *     tquery_check_query  2,384 bytes
  *     tquery_check_array  1,368 bytes

@@ -110,7 +110,7 @@ fn run(row: &Row) -> Verdict {
 
 #[test]
 fn rows_expect_what_the_reference_answers() {
-    let (mut runs, mut regroups, mut checks) = (0, 0, 0);
+    let (mut runs, mut regroups, mut compared, mut checks) = (0, 0, 0, 0);
     for row in rows() {
         if row.has("run") {
             runs += 1;
@@ -119,6 +119,10 @@ fn rows_expect_what_the_reference_answers() {
             regroups += 1;
             let [query, first, second] = ["query", "first", "second"].map(|word| row.bytes(word));
             assert_eq!(decide_regroup(&query, &first, &second, work, result), expected(&row), "{}", row.name);
+        } else if row.has("compare") {
+            compared += 1;
+            let n = row.bytes("bytes").len();
+            assert_eq!(row.numbers("steps"), [n / 8 + n % 8], "{}", row.name);
         } else {
             checks += 1;
             let check = if row.has("check-array") { check_array } else { check_query };
@@ -126,7 +130,7 @@ fn rows_expect_what_the_reference_answers() {
         }
     }
     assert!(
-        runs > 100 && regroups > 50 && checks > 50,
-        "{runs} runs, {regroups} regroupings, {checks} checks"
+        runs > 100 && regroups > 50 && compared > 25 && checks > 50,
+        "{runs} runs, {regroups} regroupings, {compared} stretches compared, {checks} checks"
     );
 }
