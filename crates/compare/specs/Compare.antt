@@ -19,7 +19,7 @@ sameBytes (x ∷ xs) (y ∷ ys) = eqb x y && sameBytes xs ys
 abbrev pub stepsFor : ℕ → ℕ
 stepsFor n = n / 8 + n % 8
 
--- What comparing answers. Equal ones take just these steps, and others at most as many.
+-- What comparing answers: whether the two are the same bytes. Equal ones take just these steps, and others at most as many.
 pub record IsComparison (one other : List ℕ) (r : Comparison) : Type 0 where
   pub outcome : r .same ≡ sameBytes one other
   pub equal : one ≡ other → r .steps ≡ stepsFor (length one)

@@ -1,18 +1,19 @@
 -- Bytes are the same just if they compare as the same; and how they are compared from the end on, a word or a byte a step.
 use mathlib.Core.Path.{_≡_, refl, sym, ap, ap₂, subst, _∙_}
 use mathlib.Core.List.{List, [], _∷_, _++_}
-use mathlib.Core.Bool.{Bool, true, false, _&&_}
+use mathlib.Core.Bool.{Bool, true, false}
 use Prim.Native.Nat.{ℕ, suc, _+_, _%_, _<_}
 use native.Mathlib.Numerals.{add-one}
 use native.Mathlib.Omega.{arith}
 use lib.ListN.{length, drop, getD, drop-of-length-le, take-append-drop}
 use lib.Seq.{drop-cons, drop-drop}
 use lib.Dec.{eqb, eqb→eq}
+use Rattle.spec_trees.specs.Within.{AllBytes}
 use Rattle.spec_trees.specs.OptionLaws.{T-and, T-true, true-T, eqb-same}
 use Rattle.compare.specs.Compare.{sameBytes, lowAt, IsComparison, SameFrom}
-use Rattle.compare.specs.WordLaws.{Bytes, low-same}
+use Rattle.compare.specs.WordLaws.{low-same}
 
-pub same-refl : (a : List ℕ) → sameBytes a a ≡ true
+same-refl : (a : List ℕ) → sameBytes a a ≡ true
 unfolding sameBytes
 same-refl [] = refl
 same-refl (x ∷ xs) = rw (eqb-same, same-refl xs) refl
@@ -60,7 +61,7 @@ module _ {a b : List ℕ} {i s : ℕ} (h : SameFrom a b i s) where
       }
 
   -- a word
-  pub word-compared : (j : ℕ) → i ≡ j + 8 → Bytes a → Bytes b → lowAt 8 a j ≡ lowAt 8 b j → SameFrom a b j (s + 1)
+  pub word-compared : (j : ℕ) → i ≡ j + 8 → AllBytes a → AllBytes b → lowAt 8 a j ≡ lowAt 8 b j → SameFrom a b j (s + 1)
   word-compared j z ba bb e =
       let q : drop (j + 8) a ≡ drop (j + 8) b = subst (λ k. drop k a ≡ drop k b) z (h .same) in
       let behind : drop 8 (drop j a) ≡ drop 8 (drop j b) = drop-drop 8 j a ∙ q ∙ sym (drop-drop 8 j b) in

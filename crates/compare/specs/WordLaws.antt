@@ -5,11 +5,11 @@ use Prim.Native.Nat.{ℕ, suc, _+_, _*_, _≤_, _<_}
 use native.Mathlib.Numerals.{add-one}
 use native.Mathlib.Omega.{arith}
 use lib.ListN.{length, take, drop, getD, length-take, length-drop}
-use lib.Seq.{drop-cons, getD-drop, getD-take}
+use lib.Seq.{drop-cons}
 use Rattle.spec_trees.specs.Bytes.{low}
 use Rattle.spec_trees.specs.Readers.{lowValue}
 use Rattle.spec_trees.specs.Within.{AllBytes}
-use Rattle.spec_trees.specs.ListLaws.{All-of}
+use Rattle.spec_trees.specs.ListLaws.{All-take, All-drop}
 use Rattle.spec_trees.specs.NumberLaws.{low-form}
 use Rattle.compare.specs.Compare.{lowAt}
 
@@ -47,26 +47,16 @@ low-eight s i h = omega (arith, low-four-more 4 i s (omega arith), low-four s i 
 
 -- ---- tells its bytes
 
--- each byte of an area is a byte, as a lent one is known
-abbrev pub Bytes : List ℕ → Type 0
-Bytes s = (i : ℕ) → getD s i 0 < 256
-
-part-bytes : (n i : ℕ) (s : List ℕ) → Bytes s → AllBytes (take n (drop i s))
-part-bytes n i s h = All-of (λ x. x < 256) 0 (take n (drop i s)) byte
-  where
-    byte : (k : ℕ) → k < length (take n (drop i s)) → getD (take n (drop i s)) k 0 < 256
-    byte k l =
-        let b : k < n = omega (arith, simp length-take at l) in
-        omega (arith, getD-take n (drop i s) k 0 b, getD-drop i s k 0, h (i + k))
-
 -- n bytes of two areas are the same if their numbers are
-pub low-same : (n i : ℕ) (a b : List ℕ) → Bytes a → Bytes b → i + n ≤ length a → i + n ≤ length b → lowAt n a i ≡ lowAt n b i
+pub low-same : (n i : ℕ) (a b : List ℕ) → AllBytes a → AllBytes b → i + n ≤ length a → i + n ≤ length b → lowAt n a i ≡ lowAt n b i
     → take n (drop i a) ≡ take n (drop i b)
-low-same n i a b p q l m e =
-    sym (form a p l) ∙ ap (low n) e ∙ form b q m
+low-same n i a b p q l m e = sym (form a p l) ∙ ap (low n) e ∙ form b q m
   where
     part-length : (s : List ℕ) → i + n ≤ length s → length (take n (drop i s)) ≡ n
     part-length s z = simp (length-take, length-drop) (omega arith)
 
-    form : (s : List ℕ) → Bytes s → i + n ≤ length s → low n (lowAt n s i) ≡ take n (drop i s)
-    form s h z = ap (λ k. low k (lowAt n s i)) (sym (part-length s z)) ∙ low-form (take n (drop i s)) (part-bytes n i s h)
+    part-bytes : (s : List ℕ) → AllBytes s → AllBytes (take n (drop i s))
+    part-bytes s h = All-take (λ x. x < 256) n (drop i s) (All-drop (λ x. x < 256) i s h)
+
+    form : (s : List ℕ) → AllBytes s → i + n ≤ length s → low n (lowAt n s i) ≡ take n (drop i s)
+    form s h z = ap (λ k. low k (lowAt n s i)) (sym (part-length s z)) ∙ low-form (take n (drop i s)) (part-bytes s h)

@@ -2,7 +2,8 @@
 use native.Mathlib.Omega.{arith}
 use borrow.Author.Needs.{needs}
 use mathlib.Core.Path.{_≡_, ap, sym, _∙_}
-use Prim.Native.Nat.{_-_, _%_}
+use Prim.Native.Nat.{_-_, _%_, _<_}
+use Rattle.spec_trees.specs.ListLaws.{All-of}
 use Rattle.compare.specs.Compare.{lowAt, stepsFor, SameFrom}
 use Rattle.compare.specs.CompareLaws.{word-compared, all-compared, told-apart}
 use Rattle.compare.proofs.words.compare_words.Statement.{statement}
@@ -45,16 +46,19 @@ loop-again c = (
   word-compared (c .before .before .before .before .loop .inv .0)
       (c .before .before .before .before .loop .i - 8)
       (omega (arith, c .before .before .before .loop-test .taken))
-      (λ k. omega (
+      (All-of (λ x. x < 256) 0
+      (c .before .before .before .before .before .before .before .args .one .now)
+      (λ k l. omega (
         arith,
         c .before .before .before .before .before .before .shared-slice-known .given
             k,
-      )) (λ k. omega (
+      ))) (All-of (λ x. x < 256) 0
+      (c .before .before .before .before .before .before .before .args .other .now)
+      (λ k l. omega (
         arith,
         c .before .before .before .before .before .shared-slice-known2 .given
             k,
-      ))
-      (sym (c .before .before .word .ensures) ∙ c .if1 .left ∙ c .before .word2 .ensures),
+      ))) (sym (c .before .before .word .ensures) ∙ c .if1 .left ∙ c .before .word2 .ensures),
   omega (
     arith,
     c .before .before .before .before .loop .inv .1,
