@@ -54,13 +54,21 @@
  *   5      input malformed, or a tree in it too large    as it was  zero
  *   6      joined array over 16,384 bytes                as it was  zero
  *   7      joined array malformed, or a tree too large   as it was  zero
+ *  12      a total does not fit a signed 64-bit integer  zero       zero
  *   8      a tree was too large in a stretch             zero       zero
  *   9      an array entering a group over 16,384 bytes   zero       zero
  *  10      the last array over 16,384 bytes, or over     zero       zero
  *          the result area
  *
+ * 12, 8, 9 and 10 come of the run itself, stretch by stretch: the stages before
+ * the first group are a stretch, and so is each group with the stages up to the
+ * next. The first stretch with a fault decides, and in it the table's order: 12
+ * where its group begins, before any tree that the group makes is tested; 8;
+ * and 9 of the array that it hands to the next group, or 10 of the last array.
+ * So an array that enters a group is tested for 9 first, then for 12.
+ *
  * For tquery_regroup 3 is also a query that is not one such group alone, 4 and
- * 5 are of the first array and then of the second, 6, 7 and 11 do not come,
+ * 5 are of the first array and then of the second, 6, 7, 11 and 12 do not come,
  * and 9 is the two arrays joined over 16,384 bytes, which is tested before 8.
  *
  * After 0 the result stands at the start of the result area, and the bytes
@@ -91,6 +99,21 @@
  *
  * The other calls take no position area.
  *
+ * Totals
+ * ------
+ * A pair in a group's list of aggregates, field 50, has tag 49 or 54, and in
+ * both cases a source and a destination. By tag 49 it places all trees that the
+ * source gives of the members of a class. By tag 54 it is a total, and places
+ * one integer in their stead: the sum of the integer roots of these trees.
+ * Other roots add nothing, nor do the roots of trees below them. If no tree has
+ * an integer root, nothing is placed; a sum of 0 is. The sum is exact, so that
+ * a partial one may leave 64 bits; if at the end the total of some class does
+ * not fit a signed 64-bit integer, the run is refused by 12. In the list of
+ * grouping pairs, field 51, a total is malformed.
+ *
+ * A workshop adds the lengths of the edges of a job so: host/c/totals.c is an
+ * example.
+ *
  * Trays
  * -----
  * A day's records may come in trays, each an array within the limits, and may
@@ -100,13 +123,13 @@
  * A query without a group: the results, one behind another, are what the
  * stages give of all the trays together. The list may be of any length.
  *
- * A query that ends in its only group, whose destinations, those of the
- * aggregates and of the grouping pairs together, are single labels, no two of
- * them equal: tquery_regroup joins two results into the result of both trays,
- * and so, call by call, all results into the day's list. Its query is the
- * group alone. If all calls are accepted too, the list is what the stages give
- * of all the trays together, whichever results are joined first, as long as
- * they stay in order. host/c/day.c is an example.
+ * A query that ends in its only group, which has no total and whose
+ * destinations, those of the aggregates and of the grouping pairs together, are
+ * single labels, no two of them equal: tquery_regroup joins two results into
+ * the result of both trays, and so, call by call, all results into the day's
+ * list. Its query is the group alone. If all calls are accepted too, the list
+ * is what the stages give of all the trays together, whichever results are
+ * joined first, as long as they stay in order. host/c/day.c is an example.
  *
  * What a machine must have
  * ------------------------
@@ -185,6 +208,7 @@ extern "C" {
 #define TQUERY_GROUP_LONG 9
 #define TQUERY_RESULT_LONG 10
 #define TQUERY_POSITIONS_SHORT 11 /* tested after 1 and before 2 */
+#define TQUERY_TOTAL_LARGE 12     /* tested where a group begins, before 8 */
 
 /* An answer's number, and the length of its result. */
 #define TQUERY_NUMBER(answer) ((unsigned)((answer) >> 32))
@@ -232,8 +256,8 @@ uint64_t tquery_run(const uint8_t *query, size_t query_length,
  *  ------  ------------------------------------------------------------------
  *   1      work area under 65,536 bytes
  *   2      query over 4,096 bytes
- *   3      query malformed, or not one group alone whose destinations are
- *          single labels, no two equal
+ *   3      query malformed, or not one group alone, without a total, whose
+ *          destinations are single labels, no two equal
  *   4      first array over 16,384 bytes
  *   5      first array malformed, or a tree in it too large
  *   4, 5   the same of the second array

@@ -126,6 +126,7 @@ static const char *words(unsigned number)
         "an array entering a group over 16,384 bytes",
         "the last array over 16,384 bytes, or over the result area",
         "position area under 2,730 entries",
+        "a total does not fit a signed 64-bit integer",
     };
     return number < sizeof table / sizeof table[0] ? table[number] : "not in the table";
 }

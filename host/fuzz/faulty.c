@@ -4,11 +4,17 @@
  * of the environment says which fault the calls have, by its place in the
  * tables.
  */
+#include "case.h"
+#include "totals.h"
 #include "tquery.h"
 
 #include <stdio.h>
 #include <stdlib.h>
 #include <string.h>
+
+#define FIELD_HEAD 3
+
+enum { TAG_GROUP = 20, TAG_PAIR = 49 };
 
 /*
  * What a run was lent, a byte of its work area and an entry of its position area before it, and the engine's
@@ -72,9 +78,12 @@ static void answers_2_for_11(struct run *run)
     run->number = run->number == 11 && run->query_length > TQUERY_QUERY_MAX ? 2 : run->number;
 }
 
+static void answers_13(struct run *run) { run->number = run->number == 8 ? 13 : run->number; }
 static void answers_12(struct run *run) { run->number = run->number == 8 ? 12 : run->number; }
+static void answers_8_for_12(struct run *run) { run->number = run->number == 12 ? 8 : run->number; }
 static void answers_11(struct run *run) { run->number = run->number == 8 ? 11 : run->number; }
 static void refuses_with_length(struct run *run) { run->length += run->number == 9; }
+static void refuses_total_with_length(struct run *run) { run->length += run->number == 12; }
 static void answers_5_for_4(struct run *run) { run->number = run->number == 4 ? 5 : run->number; }
 static void accepts_malformed(struct run *run) { run->number = run->number == 7 ? 10 : run->number; }
 static void refuses_admitted(struct run *run) { run->number = run->number == 9 ? 7 : run->number; }
@@ -111,6 +120,38 @@ static void leaves_result(struct run *run)
 {
     if (run->number == 9 && run->result_length > 0) {
         run->result[run->result_length / 2] = 1;
+    }
+}
+
+/* A sum that fits is refused, with all areas as after 12. */
+static void refuses_fitting_total(struct run *run)
+{
+    if (run->number == 0 && groups_with_total(run->query, run->query_length) > 0) {
+        memset(run->result, 0, run->result_length);
+        memset(run->positions, 0, run->positions_length * sizeof *run->positions);
+        run->number = 12;
+        run->length = 0;
+    }
+}
+
+static void leaves_result_at_12(struct run *run)
+{
+    if (run->number == 12 && run->result_length > 0) {
+        run->result[run->result_length - 1] = 1;
+    }
+}
+
+static void leaves_entry_at_12(struct run *run)
+{
+    if (run->number == 12) {
+        run->positions[run->positions_length / 2] = 1;
+    }
+}
+
+static void leaves_work_at_12(struct run *run)
+{
+    if (run->number == 12) {
+        run->work[run->work_length / 2] = 1;
     }
 }
 
@@ -183,6 +224,7 @@ static const struct {
     {"writes the input, what stands there", writes_input},
     {"leaves a byte of a work area over 65,536", leaves_work},
     {"changes the work area at 1", clears_short_work},
+    {"answers 13 for 8", answers_13},
     {"answers 12 for 8", answers_12},
     {"answers 11 for 8", answers_11},
     {"answers 9 with a length", refuses_with_length},
@@ -206,6 +248,12 @@ static const struct {
     {"changes the position area at 5", touches_refused_entry},
     {"leaves an entry beyond 2,730 at 10", leaves_entry},
     {"gives a position by what the area held", position_by_area},
+    {"answers 8 for 12", answers_8_for_12},
+    {"answers 12 where the totals fit", refuses_fitting_total},
+    {"answers 12 with a length", refuses_total_with_length},
+    {"leaves a byte of the result area at 12", leaves_result_at_12},
+    {"leaves an entry of the position area at 12", leaves_entry_at_12},
+    {"leaves a byte of the work area at 12", leaves_work_at_12},
 };
 
 #define OF_RUN (int)(sizeof of_run / sizeof *of_run)
@@ -223,10 +271,12 @@ static const char *const of_others[] = {
     "regroup joins the second array before the first",
     "regroup counts both heads of the join",
     "regroup leaves a byte of the result area at 9",
+    "regroup takes a total",
+    "regroup answers 12 for 8",
 };
 
 enum { READS_PAST = OF_RUN, WITH_LENGTH, ANSWERS_6, BY_PLACE, QUERY_2, QUERY_0,
-       PAST_SECOND, GROUP_LATE, SECOND_FIRST, SWAPPED, TWO_HEADS, LEFT_AT_9 };
+       PAST_SECOND, GROUP_LATE, SECOND_FIRST, SWAPPED, TWO_HEADS, LEFT_AT_9, TAKES_TOTAL, REGROUP_12 };
 
 static int fault(void)
 {
@@ -318,8 +368,23 @@ static uint64_t regroup_fault(uint64_t answer, uint64_t query, uint64_t first, u
         return of_arrays && second != 0 ? second : answer;
     case TWO_HEADS:
         return ran && both_lengths > TQUERY_ARRAY_MAX ? 9ull << 32 : answer;
+    case REGROUP_12:
+        return number == TQUERY_TREE_LARGE ? 12ull << 32 : answer;
     default:
         return answer;
+    }
+}
+
+/* A query that tquery_check_query accepts, with pairs of tag 49 for the totals of its first stage. */
+static void without_totals(uint8_t *other, const uint8_t *query, size_t length)
+{
+    memcpy(other, query, length);
+    uint8_t *pair = other + 3 * FIELD_HEAD;
+    if (length <= 3 * FIELD_HEAD || other[FIELD_HEAD] != TAG_GROUP) {
+        return;
+    }
+    for (uint8_t *end = pair + length_at(pair - 2); pair < end; pair += FIELD_HEAD + length_at(pair + 1)) {
+        pair[0] = TAG_PAIR;
     }
 }
 
@@ -333,6 +398,11 @@ uint64_t __wrap_tquery_regroup(const uint8_t *query, size_t query_length,
                           __real_tquery_check_array(first, first_length),
                           __real_tquery_check_array(second, second_length)};
     int swapped = fault() == SWAPPED && checks[1] == 0 && checks[2] == 0;
+    static uint8_t other[TQUERY_QUERY_MAX];
+    if (fault() == TAKES_TOTAL && checks[0] == 0) {
+        without_totals(other, query, query_length);
+        query = other;
+    }
     uint64_t answer = __real_tquery_regroup(query, query_length, swapped ? second : first,
                                             swapped ? second_length : first_length,
                                             swapped ? first : second,

@@ -13,6 +13,8 @@
 #define DATA_LONGEST 65536
 #define GROWTH_MOST 8 /* of the content of a field in one step */
 
+enum { TAG_PAIR = 49, TAG_TOTAL = 54 };
+
 size_t LLVMFuzzerMutate(uint8_t *data, size_t size, size_t max_size);
 
 /* A field in the data, and where the heads of the fields around it stand. */
@@ -32,11 +34,12 @@ static size_t below(size_t bound)
     return (size_t)((uint64_t)(state >> 8) * bound >> 24);
 }
 
-/* Fields of one kind may stand in each other's place: roots, stages, criteria, data, items. */
+/* Fields of one kind may stand in each other's place: roots, stages, criteria, data, items, pairs. */
 static int kind_of(uint8_t tag)
 {
     static const uint8_t last_of_kind[] = {1, 2, 6, 7, 16, 21, 32, 39, 45, 46, 48, 49, 50, 51};
     int kind = 0;
+    tag = tag == TAG_TOTAL ? TAG_PAIR : tag;
     while (kind < (int)sizeof last_of_kind && tag > last_of_kind[kind]) {
         kind++;
     }
@@ -128,7 +131,7 @@ static size_t replace(uint8_t *data, size_t size, const struct found *found, siz
 }
 
 static const uint8_t tags[] = {1, 2, 3, 4, 5, 6, 7, 16, 17, 18, 19, 20, 21, 32, 33, 34, 35,
-                               36, 37, 38, 39, 40, 41, 42, 43, 44, 45, 46, 47, 48, 49, 50, 51};
+                               36, 37, 38, 39, 40, 41, 42, 43, 44, 45, 46, 47, 48, 49, 50, 51, 54};
 
 /* Whether a field's content has one length. */
 static int is_fixed(uint8_t tag)

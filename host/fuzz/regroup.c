@@ -21,12 +21,15 @@ static void set_head(uint8_t *field, uint8_t tag, size_t length)
     set_length(field + 1, length - FIELD_HEAD);
 }
 
-/* Writes a pair whose source is its destination too; 0 if that is not one label, or one that was seen. */
+/*
+ * Writes a pair whose source is its destination too; 0 if that is not one
+ * label, or one that was seen, or if the pair is a total.
+ */
 static size_t pair_again(uint8_t *out, const uint8_t *pair, uint8_t seen[LABELS])
 {
     const uint8_t *source = pair + FIELD_HEAD;
     const uint8_t *destination = source + field_length(source);
-    if (field_length(destination) != PATH_OF_ONE || seen[destination[FIELD_HEAD]]) {
+    if (pair[0] != TAG_PAIR || field_length(destination) != PATH_OF_ONE || seen[destination[FIELD_HEAD]]) {
         return 0;
     }
     seen[destination[FIELD_HEAD]] = 1;

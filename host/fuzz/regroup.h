@@ -13,8 +13,8 @@
 
 /*
  * Writes the regrouping of a query that tquery_check_query accepts. Answers its
- * length, or 0 if the query is not one group alone whose destinations are
- * single labels, no two equal.
+ * length, or 0 if the query is not one group alone, without a total, whose
+ * destinations are single labels, no two equal.
  */
 size_t regrouping(uint8_t again[AGAIN_LONGEST], const uint8_t *query, size_t length);
 

@@ -10,6 +10,7 @@
 #include "area.h"
 #include "case.h"
 #include "regroup.h"
+#include "totals.h"
 #include "tquery.h"
 
 #include <setjmp.h>
@@ -19,7 +20,7 @@
 #include <string.h>
 #include <sys/time.h>
 
-#define NUMBERS 12
+#define NUMBERS 13
 #define ENTRY sizeof(uint16_t)
 #define FIELD_HEAD 3
 #define ROOM_LONGEST (WORK_LONGEST + 4096)
@@ -164,7 +165,7 @@ static void check_work(unsigned number, const uint8_t *noise)
 /* Whether a number is of the run itself, and not of what it was lent. */
 static int is_late(unsigned number)
 {
-    return number >= TQUERY_TREE_LARGE && number <= TQUERY_RESULT_LONG;
+    return (number >= TQUERY_TREE_LARGE && number <= TQUERY_RESULT_LONG) || number == TQUERY_TOTAL_LARGE;
 }
 
 static void check_result(unsigned number, size_t length, const uint8_t *noise)
@@ -174,7 +175,7 @@ static void check_result(unsigned number, size_t length, const uint8_t *noise)
         expect(room_is(&result, noise, result.bytes, length), "bytes beyond the result are as they were");
         expect(tquery_check_array(result.bytes, length) == 0, "the result is an array");
     } else if (is_late(number)) {
-        expect(room_is(&result, noise, zeros, result.length), "after 8 to 10 the result area is zero");
+        expect(room_is(&result, noise, zeros, result.length), "after 8 to 10 and 12 the result area is zero");
     } else {
         expect(room_is(&result, noise, zeros, 0), "after 1 to 7 and 11 the result area is as it was");
     }
@@ -204,7 +205,7 @@ static void check_positions(const struct outcome *outcome, unsigned number, cons
     } else {
         size_t cleared = is_late(number) ? positions.length : 0;
         expect(room_is(&positions, noise, zeros, cleared),
-               "the position area is as it was, or after 8 to 10 zero");
+               "the position area is as it was, or after 8 to 10 and 12 zero");
     }
 }
 
@@ -246,6 +247,20 @@ static unsigned decided(const struct outcome *outcome, int regroups)
     return long_join ? TQUERY_GROUP_LONG : 0;
 }
 
+/* 12 comes of totals alone. Where the first stage makes one class of the input, it is told whether it does. */
+static void check_totals(unsigned number)
+{
+    const struct area *query = &read_areas[QUERY], *input = &read_areas[INPUT];
+    int refused = number == TQUERY_TOTAL_LARGE;
+    int groups = groups_with_total(query->bytes, query->length);
+    expect(!refused || groups > 0, "12 comes of a total");
+    if (begins_with_total(query->bytes, query->length)) {
+        int fit = totals_fit(query->bytes, input->bytes, input->length);
+        expect(fit || refused, "12 comes where a total of the first stage does not fit");
+        expect(!fit || !refused || groups > 1, "12 does not come where all totals fit");
+    }
+}
+
 /* A regrouping answers as the run of the group made anew over the two arrays joined. */
 static void check_regrouped(const struct outcome *outcome)
 {
@@ -271,10 +286,14 @@ static void check_outcome(const struct outcome *outcome, const uint8_t *noise, i
     expect(number == TQUERY_ACCEPTED || length == 0, "a refusal has length 0");
     expect(by_checks != 0 ? number == by_checks : number == 0 || is_late(number),
            "the call and the checks agree");
+    expect(!regroups || number != TQUERY_TOTAL_LARGE, "12 does not come of a regrouping");
     check_work(number, noise);
     check_result(number, length, noise);
     if (!regroups) {
         check_positions(outcome, number, noise);
+    }
+    if (!regroups && by_checks == 0) {
+        check_totals(number);
     }
     if (regroups && by_checks == 0) {
         check_regrouped(outcome);

@@ -83,7 +83,7 @@ pub enum Check {
 
 /// Whether a number clears the result and the position area.
 fn clears(number: u64) -> bool {
-    8 <= number && number <= 10
+    8 <= number && number <= 10 || number == 12
 }
 
 /// The byte that fills the result area beyond the result, by the number.

@@ -51,7 +51,7 @@ clash e = let z : _≡_ {A = ℕ} 0 1 = cc in absurd (omega arith)
 -- the regrouping of a tray group
 pub such-is : {q : List ℕ} {ss : List Stage} {at : GroupAt} (i : IsTrayGroup q ss at) → regrouping ss ≡ some (regrouped (i .aggregates) (i .grouping))
 unfolding regrouping only
-such-is i = ap regrouping (i .same) ∙ ap (λ b. only b (some (regrouped (i .aggregates) (i .grouping)))) (i .distinct)
+such-is i = ap regrouping (i .same) ∙ ap (λ b. only b (some (regrouped (i .aggregates) (i .grouping)))) (i .again)
 
 -- what comes behind all tests
 abbrev regroups : ℕ → Stage → List Tree → List Tree → Verdict

@@ -10,7 +10,7 @@ use Rattle.spec_trees.specs.Within.{Within}
 use Rattle.spec_queries.specs.Query.{Pair, Stage}
 use Rattle.spec_queries.specs.Bytes.{queryBytes}
 use Rattle.spec_queries.specs.Rules.{OkQ}
-use Rattle.spec_queries.specs.Again.{distinctTargets, regrouped}
+use Rattle.spec_queries.specs.Again.{regroups, regrouped}
 use Rattle.spec_stages.specs.Stages.{going, stages}
 use Rattle.spec_stages.specs.Positions.{resultPositions}
 use Rattle.queries.specs.declared.stage.GroupAt.{GroupAt}
@@ -30,5 +30,5 @@ Performs q i j area entries a left noted = (ss : List Stage) (ts us : List Tree)
 
 -- the regrouping call: whatever group and arrays they are, the verdict is the plain regrouping's
 abbrev pub PerformsAgain : (q : List ℕ) (at : GroupAt) (a b area left : List ℕ) → Answer → Type 0
-PerformsAgain q at a b area left o = (ag gs : List Pair) (ts us : List Tree) → Pairs q at ag gs → distinctTargets ag gs ≡ true
+PerformsAgain q at a b area left o = (ag gs : List Pair) (ts us : List Tree) → Pairs q at ag gs → regroups ag gs ≡ true
     → a ≡ arrayBytes ts → Within ts → b ≡ arrayBytes us → Within us → AnswersAs area (final (length area) [] (stages [] (regrouped ag gs ∷ []) (going (ts ++ us)))) o left

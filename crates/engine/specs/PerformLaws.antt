@@ -15,7 +15,7 @@ use Rattle.spec_trees.specs.Within.{AllBytes}
 use Rattle.spec_trees.specs.ArrayLaws.{array-only, read-array}
 use Rattle.spec_queries.specs.Query.{Stage}
 use Rattle.spec_queries.specs.QueryLaws.{query-only, read-query}
-use Rattle.spec_stages.specs.Stages.{State, going, large, long, stages}
+use Rattle.spec_stages.specs.Stages.{tooLong, overflow, State, going, large, halted, stages}
 use Rattle.spec_stages.specs.Positions.{carried, resultPositions}
 use Rattle.spec_stages.specs.Positions as borne
 use Rattle.stretches.specs.declared.ended.Ended.{Ended}
@@ -26,7 +26,7 @@ use Rattle.spec_run.specs.declared.answer.Answer.{Answer}
 use Rattle.spec_run.specs.declared.answer.Answer.the-variants.{Refused}
 use Rattle.checks.specs.declared.check.CallCheck.the-variants as check-is
 use Rattle.spec_run.specs.Refusal.{keepsWork}
-use Rattle.spec_run.specs.Run.{Call, Verdict, gives, refused, final, verdict, numberIn, lengthIn, resultAfter, zeros, workAfter, positionsAfter, outcomeOf, plainRun, plainPositions}
+use Rattle.spec_run.specs.Run.{Call, Verdict, gives, refused, refusalAt, final, verdict, numberIn, lengthIn, resultAfter, zeros, workAfter, positionsAfter, outcomeOf, plainRun, plainPositions}
 use Rattle.spec_run.specs.RunLaws.{reads-verdict}
 use Rattle.spec_run.specs.Answer.{numbered, lengthened, Answered, AnswersAs}
 use Rattle.spec_run.specs.AnswerLaws.{AnsweredBy, by-run}
@@ -51,9 +51,10 @@ module _ (area work : List ℕ) (x : Verdict) where
 
   -- no verdict of the stages keeps the work area
   final-clears : (room : ℕ) (ps : List ℕ) (st : State) → x ≡ final room ps st → workAfter work x ≡ zeros work
-  unfolding final workAfter keepsWork
+  unfolding final refusalAt workAfter keepsWork
   final-clears room ps large z = ap (workAfter work) z
-  final-clears room ps long z = ap (workAfter work) z
+  final-clears room ps (halted tooLong) z = ap (workAfter work) z
+  final-clears room ps (halted overflow) z = ap (workAfter work) z
   final-clears room ps (going ts) z = go (leb (arraySize ts) arrayMax && leb (arraySize ts) room) z
     where
       go : (b : Bool) → x ≡ cond b (gives (arrayBytes ts) ps) (refused ResultLong) → workAfter work x ≡ zeros work

@@ -35,7 +35,7 @@ module _ {q : List ℕ} {at : GroupAt} {a b w : List ℕ} {r : Ended} (k : Regro
   again-finish h = record {
     state = stages [] (regrouped (h .aggregates) (h .grouping) ∷ []) (going (h .first ++ h .second));
     borne = carried [] (regrouped (h .aggregates) (h .grouping) ∷ []) (borne.numbered 1 (h .first ++ h .second));
-    ended = k (h .aggregates) (h .grouping) (h .first) (h .second) (h .pairs) (h .distinct) (h .first-is) (h .first-ok) (h .second-is) (h .second-ok);
+    ended = k (h .aggregates) (h .grouping) (h .first) (h .second) (h .pairs) (h .again) (h .first-is) (h .first-ok) (h .second-is) (h .second-ok);
   }
 
   pub again-perform : (area : List ℕ) {left : List ℕ} {o : Answer} → Finishes w r area left o → PerformsAgain q at a b area left o
@@ -57,7 +57,7 @@ module _ (c : RegroupCall) {r : RegroupCheck} (h : RegroupChecked (c .query) (c 
           aggregates = k .such .aggregates;
           grouping = k .such .grouping;
           pairs = k .such .pairs;
-          distinct = k .such .distinct;
+          again = k .such .again;
           first = k .first;
           first-is = sym (t .0);
           first-ok = t .1;
@@ -77,7 +77,7 @@ module _ (c : RegroupCall) {r : RegroupCheck} (h : RegroupChecked (c .query) (c 
         let u = array-only (c .second) (k .second) bb (read-array (c .second) (k .second) .0 (k .second-is)) in
         let s = regrouped (i .aggregates) (i .grouping) in
         let v = reads-regroup c (k .stages) s (k .first) (k .second) record { enough = again-enough; query = k .query-is; such = such-is i; first = k .first-is; second = k .second-is } in
-        let o = p (i .aggregates) (i .grouping) (k .first) (k .second) (i .pairs) (i .distinct) (sym (t .0)) (t .1) (sym (u .0)) (u .1) in
+        let o = p (i .aggregates) (i .grouping) (k .first) (k .second) (i .pairs) (i .again) (sym (t .0)) (t .1) (sym (u .0)) (u .1) in
         by-regroup (ended-answered (c .result) (c .work) (regroupVerdict c) (length (c .result)) [] (stages [] (s ∷ []) (going (k .first ++ k .second))) v o e)
 
   pub again-refused : {t : Refusal} → r ≡ RegroupCheck.Refused t → {a : Answer} {work : List ℕ} → a ≡ Refused t

@@ -20,6 +20,7 @@ pub fn refusal_number(refusal: Refusal) -> u64
         Refusal::InputMalformed => 5,
         Refusal::JoinedLong => 6,
         Refusal::JoinedMalformed => 7,
+        Refusal::TotalLarge => 12,
         Refusal::TreeLarge => 8,
         Refusal::GroupLong => 9,
         Refusal::ResultLong => 10,

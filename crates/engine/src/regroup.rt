@@ -30,9 +30,9 @@ fn perform_again<'a>(
     finish(work, ended, result)
 }
 
-/// Groups two arrays, joined, again by a query that is one group alone whose destinations are single, distinct labels:
-/// each destination is now also the source. Its number, its length and the whole content of the result area and of the
-/// work area are the plain regrouping's of this call. The areas that are read never change.
+/// Groups two arrays, joined, again by a query that is one group alone, without totals, whose destinations are single,
+/// distinct labels: each destination is now also the source. Its number, its length and the whole content of the result
+/// area and of the work area are the plain regrouping's of this call. The areas that are read never change.
 pub fn regroup<'a>(
     query: &'a [u8],
     first: &'a [u8],

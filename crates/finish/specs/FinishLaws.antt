@@ -17,19 +17,19 @@ use Rattle.spec_trees.specs.Bytes.{fieldBytes, arrayF, arrayBytes}
 use Rattle.areas.specs.Area.{Is, Wrote, headBytes}
 use Rattle.areas.specs.AreaLaws.{is-part, told}
 use Rattle.queries.specs.Places.{arrayTrees}
-use Rattle.spec_stages.specs.Stages.{State, going, large, long}
+use Rattle.spec_stages.specs.Stages.{Halt, tooLong, overflow, State, going, large, halted}
 use Rattle.spec_stages.specs.Positions.{unmarked}
 use Rattle.map.specs.Map.{collectedAt}
 use Rattle.stretches.specs.declared.ended.Ended.{Ended}
 use Rattle.stretches.specs.Ended.{FullIs}
 use Rattle.stretches.specs.LaterLaws.{size-is}
 use Rattle.spec_run.specs.declared.answer.Refusal.{Refusal}
-use Rattle.spec_run.specs.declared.answer.Refusal.the-variants.{TreeLarge, GroupLong, ResultLong}
+use Rattle.spec_run.specs.declared.answer.Refusal.the-variants.{TreeLarge, ResultLong}
 use Rattle.spec_run.specs.declared.answer.Answer.{Answer}
 use Rattle.spec_run.specs.declared.answer.Answer.the-variants.{Accepted, Refused}
 use Rattle.spec_run.specs.Refusal.{keepsResult}
 use Rattle.spec_run.specs.Answer.{AnswersAs}
-use Rattle.spec_run.specs.Run.{final, zeros, numberIn, lengthIn, resultAfter}
+use Rattle.spec_run.specs.Run.{refusalAt, final, zeros, numberIn, lengthIn, resultAfter}
 use Rattle.finish.specs.Finish.{AcceptReady, Accepts, FinishReady, Finishes}
 
 -- ---- the array is written: its head, and its trees behind it
@@ -59,9 +59,10 @@ module _ {a : Answer} {left : List ℕ} (area : List ℕ) {r : Refusal} (h : (a 
   unfolding final numberIn lengthIn resultAfter zeros keepsResult
   failed-large z y = rw (y, h .0, z) record { number-is = refl; length-is = refl; result-is = h .1 }
 
-  pub failed-long : r ≡ GroupLong → {st : State} → st ≡ long → AnswersAs area (final (length area) ps st) a left
-  unfolding final numberIn lengthIn resultAfter zeros keepsResult
-  failed-long z y = rw (y, h .0, z) record { number-is = refl; length-is = refl; result-is = h .1 }
+  pub failed-halted : (k : Halt) → r ≡ refusalAt k → {st : State} → st ≡ halted k → AnswersAs area (final (length area) ps st) a left
+  unfolding final refusalAt numberIn lengthIn resultAfter zeros keepsResult
+  failed-halted tooLong z y = rw (y, h .0, z) record { number-is = refl; length-is = refl; result-is = h .1 }
+  failed-halted overflow z y = rw (y, h .0, z) record { number-is = refl; length-is = refl; result-is = h .1 }
 
   failed-by : r ≡ ResultLong → (ts : List Tree) → (leb (arraySize ts) arrayMax && leb (arraySize ts) (length area)) ≡ false
       → AnswersAs area (final (length area) ps (going ts)) a left

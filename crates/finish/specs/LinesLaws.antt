@@ -14,20 +14,20 @@ use Rattle.spec_trees.specs.Size.{arraySize}
 use Rattle.spec_trees.specs.Bytes.{arrayBytes}
 use Rattle.areas.specs.Area.{Is}
 use Rattle.queries.specs.Places.{arrayTrees}
-use Rattle.spec_stages.specs.Stages.{State, going, large, long}
+use Rattle.spec_stages.specs.Stages.{tooLong, overflow, State, going, large, halted}
 use Rattle.spec_stages.specs.Positions.{Borne, unmarked, positions}
 use Rattle.map.specs.Map.{collectedAt}
 use Rattle.positions.specs.Bearing.{Bears, StandFrom, Standing}
 use Rattle.positions.specs.Entries.{Enters}
 use Rattle.stretches.specs.declared.ended.Ended.{Ended}
-use Rattle.stretches.specs.declared.ended.Ended.the-variants.{Held, Large, Long, Full}
+use Rattle.stretches.specs.declared.ended.Ended.the-variants.{Held, Large, Long, Overflow, Full}
 use Rattle.stretches.specs.Ended.{HeldIs, EndedIs}
 use Rattle.spec_run.specs.declared.answer.Refusal.{Refusal}
 use Rattle.spec_run.specs.declared.answer.Refusal.the-variants.{ResultLong}
 use Rattle.spec_run.specs.Refusal.{keepsResult}
 use Rattle.spec_run.specs.declared.answer.Answer.{Answer}
 use Rattle.spec_run.specs.declared.answer.Answer.the-variants.{Accepted, Refused}
-use Rattle.spec_run.specs.Run.{Verdict, gives, refused, final, numberIn, lengthIn, zeros, positionsAfter}
+use Rattle.spec_run.specs.Run.{Verdict, gives, refused, refusalAt, final, numberIn, lengthIn, zeros, positionsAfter}
 use Rattle.spec_run.specs.RunLaws.{refusal-number, accepts-gives, final-out}
 use Rattle.spec_run.specs.Answer.{numbered, lengthened}
 use Rattle.finish.specs.Lines.{ComesTo, LinesReady, Lines}
@@ -40,6 +40,7 @@ ended-held : {w : List ℕ} {st : State} {bs : List Borne} (r : Ended) → Ended
 ended-held (Held n) h fs e s = (n, h .held n refl)
 ended-held Large h fs e s = let y = h .large-is refl in let z : _≡_ {A = ℕ} 0 1 = cc in absurd (omega arith)
 ended-held Long h fs e s = let y = h .long-is refl in let z : _≡_ {A = ℕ} 0 1 = cc in absurd (omega arith)
+ended-held Overflow h fs e s = let y = h .overflow-is refl in let z : _≡_ {A = ℕ} 0 1 = cc in absurd (omega arith)
 ended-held Full h fs e s =
     let f = h .full refl in
     let y : going fs ≡ going (f .trees) = sym e ∙ f .same in
@@ -98,9 +99,10 @@ module _ {w : List ℕ} {a : Answer} {n : ℕ} (z : a ≡ Accepted n) where
 
 -- ---- refused: in or after the stages
 final-zero : (room : ℕ) (ps : List ℕ) (st : State) (area : List ℕ) → 0 < numberIn (final room ps st) → positionsAfter area (final room ps st) ≡ zeros area
-unfolding final numberIn positionsAfter keepsResult
+unfolding final refusalAt numberIn positionsAfter keepsResult
 final-zero room ps large area l = refl
-final-zero room ps long area l = refl
+final-zero room ps (halted tooLong) area l = refl
+final-zero room ps (halted overflow) area l = refl
 final-zero room ps (going ts) area l = go (leb (arraySize ts) arrayMax && leb (arraySize ts) room) l
   where
     go : (b : Bool) → 0 < numberIn (cond b (gives (arrayBytes ts) ps) (refused ResultLong)) → positionsAfter area (cond b (gives (arrayBytes ts) ps) (refused ResultLong)) ≡ zeros area

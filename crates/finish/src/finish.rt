@@ -30,6 +30,7 @@ fn keeps_work(refusal: Refusal) -> bool
         Refusal::InputMalformed => false,
         Refusal::JoinedLong => false,
         Refusal::JoinedMalformed => false,
+        Refusal::TotalLarge => false,
         Refusal::TreeLarge => false,
         Refusal::GroupLong => false,
         Refusal::ResultLong => false,
@@ -87,6 +88,7 @@ pub fn finish(work: &[u8], ended: Ended, result: &mut [u8]) -> Answer
         Ended::Held(n) => accept(work, n, result),
         Ended::Large => fail(Refusal::TreeLarge, result),
         Ended::Long => fail(Refusal::GroupLong, result),
+        Ended::Overflow => fail(Refusal::TotalLarge, result),
         Ended::Full => fail(Refusal::ResultLong, result),
     }
 }

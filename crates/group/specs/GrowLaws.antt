@@ -22,14 +22,13 @@ use Rattle.areas.specs.AreaLaws.{drop-more, wrote-keep, written}
 use Rattle.spec_trees.specs.OptionLaws.{true-T, T-and}
 use Rattle.spec_queries.specs.Query.{Pair}
 use Rattle.spec_queries.specs.Bytes.{pairF}
-use Rattle.spec_queries.specs.Rules.{OkPair}
 use Rattle.queries.specs.PartLaws.{list-parts, list-none, ok-list-first, ok-list-rest}
 use Rattle.spec_stages.specs.Merge.{merge, build}
 use Rattle.spec_stages.specs.KeepLaws.{merge-ok}
 use Rattle.spec_stages.specs.Group.{Class}
 use Rattle.build.specs.BuildLaws.{added-next, added-large}
 use Rattle.build.specs.Made.{Made, AddedAt}
-use Rattle.group.specs.Grow.{Grown, PairReady, PairGrows, PairsReady, PairsGrow}
+use Rattle.group.specs.Grow.{Sound, Grown, PairReady, PairGrows, PairsReady, PairsGrow}
 
 -- ---- building in parts behind others is building in all
 build-join : (z : Tree) (xs ys : List Tree) → build z (xs ++ ys) ≡ (build z xs >>= λ y. build y ys)
@@ -124,54 +123,54 @@ grown-made y h = record {
 }
 
 -- ---- pairs, one behind another: a class stands as C says, and stays while all below s does
-module _ (C : List ℕ → Class → Type 0) (f : Class → Pair → List Tree) (q : List ℕ) (p e : ℕ) (w : List ℕ) (s se : ℕ) where
-  pub pairs-done : p ≡ e → se ≤ s + treeMax → PairsGrow C f w w q (span p e) (span s se) (At se)
+module _ (C : List ℕ → Class → Type 0) (Q : Class → Pair → Type 0) (f : Class → Pair → List Tree) (q : List ℕ) (p e : ℕ) (w : List ℕ) (s se : ℕ) where
+  pub pairs-done : p ≡ e → se ≤ s + treeMax → PairsGrow C Q f w w q (span p e) (span s se) (At se)
   unfolding gather
   pairs-done y l c ps z hc op hp oz hz =
       subst (λ i. Grown w w s z (gather (f c) i) (At se)) (sym (list-none pairF ps y hp)) (grown-none z oz hz l)
 
   module _ (n : p ≡ e → ⊥) {m : ℕ} (g : m ≡ fieldEnd q p) where
-    pub pairs-first : PairsReady C w q (span p e) (span s se) → PairReady C w q (span p m) (span s se)
+    pub pairs-first : PairsReady C Q w q (span p e) (span s se) → PairReady C Q w q (span p m) (span s se)
     pairs-first h = record {
       members = h .members;
       there = h .there;
-      asked = ok-list-first pairF n g OkPair (h .asked);
+      asked = ok-list-first pairF n g (Sound Q (h .members)) (h .asked);
       whole = h .whole;
       within = h .within;
       room = h .room;
       small = h .small;
     }
 
-    module _ {u : List ℕ} {r : Out} (k : PairGrows C f w u q (span p m) (span s se) r) where
-      pub pairs-stop : r ≡ TooLarge → PairsGrow C f w u q (span p e) (span s se) TooLarge
+    module _ {u : List ℕ} {r : Out} (k : PairGrows C Q f w u q (span p m) (span s se) r) where
+      pub pairs-stop : r ≡ TooLarge → PairsGrow C Q f w u q (span p e) (span s se) TooLarge
       unfolding gather
       pairs-stop y c ps z hc op hp oz hz =
           let a = list-parts pairF ps g n hp in
-          let oa = subst (All OkPair) (a .same) op in
+          let oa = subst (All (Sound Q c)) (a .same) op in
           subst (λ i. Grown w u s z (gather (f c) i) TooLarge) (sym (a .same))
           (grown-stop (k c (a .first) z hc (oa .0) (a .first-is) oz hz) (gather (f c) (a .rest)) y)
 
       module _ (keep : (c : Class) → take s u ≡ take s w → C w c → C u c) {i : ℕ} (y : r ≡ At i) where
-        pub pairs-rest : PairsReady C w q (span p e) (span s se) → length u ≡ length w → PairsReady C u q (span m e) (span s i)
+        pub pairs-rest : PairsReady C Q w q (span p e) (span s se) → length u ≡ length w → PairsReady C Q u q (span m e) (span s i)
         pairs-rest h l =
-            let a = ok-list-first pairF n g OkPair (h .asked) in
+            let a = ok-list-first pairF n g (Sound Q (h .members)) (h .asked) in
             let j = k (h .members) (a .value) (h .whole .tree) (h .there) (a .allowed) (a .value-is) (h .whole .ok) (h .whole .tree-is) in
             let t = j .tree-is i y in
             record {
               members = h .members;
               there = keep (h .members) (j .below) (h .there);
-              asked = ok-list-rest pairF n g OkPair (h .asked);
+              asked = ok-list-rest pairF n g (Sound Q (h .members)) (h .asked);
               whole = record { tree = t .tree; ok = t .ok; tree-is = t .stands };
               within = t .within;
               room = omega (arith, h .room);
               small = omega (arith, h .small);
             }
 
-        pub pairs-next : (x : List ℕ) (o : Out) → PairsGrow C f u x q (span m e) (span s i) o → PairsGrow C f w x q (span p e) (span s se) o
+        pub pairs-next : (x : List ℕ) (o : Out) → PairsGrow C Q f u x q (span m e) (span s i) o → PairsGrow C Q f w x q (span p e) (span s se) o
         unfolding gather
         pairs-next x o k2 c ps z hc op hp oz hz =
             let a = list-parts pairF ps g n hp in
-            let oa = subst (All OkPair) (a .same) op in
+            let oa = subst (All (Sound Q c)) (a .same) op in
             let j = k c (a .first) z hc (oa .0) (a .first-is) oz hz in
             subst (λ i. Grown w x s z (gather (f c) i) o) (sym (a .same))
             (grown-next j (gather (f c) (a .rest)) y (λ t ot ht. k2 c (a .rest) t (keep c (j .below) hc) (oa .1) (a .rest-is) ot ht))

@@ -1,7 +1,7 @@
-//! The tree of a class: the bare void tree, with which the aggregates are merged and then the grouping values, in the
-//! order of their pairs. The tree so far is `built`, and each value is written and placed behind its room, and
+//! The tree of a class whose totals fit: the bare void tree, with which the aggregates are merged and then the grouping
+//! values, in the order of their pairs. The tree so far is `built`, and each value is written and placed behind its room, and
 //! added.
-ghost use Rattle.group.specs.Grow.{aggregateValue, identityValue, onePart, sourcedPart, FirstAt, ClassAt, PairReady, PairGrows, PairsReady, PairsGrow};
+ghost use Rattle.group.specs.Grow.{aggregateValue, joinedValue, totalValue, identityValue, onePart, sourcedPart, Always, Fits, TotalFits, FirstAt, ClassAt, PairReady, PairGrows, PairsReady, PairsGrow};
 ghost use Rattle.group.specs.Class.{ClassReady, MakesClass};
 use areas::area::Out;
 use areas::area::field_end;
@@ -14,13 +14,16 @@ use data::data::write_path_over;
 use format::limits::Limits;
 use paths::path::present;
 use place::place::heads_room;
+use queries::item::is_total;
 use queries::item::pair_at;
 use queries::stage::GroupAt;
+use totals::over::total_over;
+use totals::write::write_total;
 
-/// Adds to the tree so far what the aggregate gives of the class: the values of all members, joined.
-fn add_aggregate(work: &mut [u8], query: &[u8], pair: Span, members: Span, built: Span) -> Out
-    requires { ⌜ PairReady (ClassAt members (built .from)) (now work) (now query) pair built ⌝ }
-    ensures { λ r. ⌜ PairGrows (ClassAt members (built .from)) (onePart aggregateValue) (now (work .entry)) (now (work .exit)) (now (query .entry)) pair built r ⌝ }
+/// Adds to the tree so far what the aggregate, which is no total, gives of the class: the values of all members, joined.
+fn add_joined(work: &mut [u8], query: &[u8], pair: Span, members: Span, built: Span) -> Out
+    requires { ⌜ PairReady (ClassAt members (built .from)) Always (now work) (now query) pair built ⌝ }
+    ensures { λ r. ⌜ PairGrows (ClassAt members (built .from)) Always (onePart joinedValue) (now (work .entry)) (now (work .exit)) (now (query .entry)) pair built r ⌝ }
 {
     let at = pair_at(query, pair);
     let n = heads_room(query, at.target);
@@ -32,6 +35,33 @@ fn add_aggregate(work: &mut [u8], query: &[u8], pair: Span, members: Span, built
     add_written(work, built, o)
 }
 
+/// Adds to the tree so far the total of the class, which fits: the sum of the integers that the source gives of all
+/// members.
+fn add_total(work: &mut [u8], query: &[u8], pair: Span, members: Span, built: Span) -> Out
+    requires { ⌜ PairReady (ClassAt members (built .from)) TotalFits (now work) (now query) pair built ⌝ }
+    ensures { λ r. ⌜ PairGrows (ClassAt members (built .from)) TotalFits (onePart totalValue) (now (work .entry)) (now (work .exit)) (now (query .entry)) pair built r ⌝ }
+{
+    let at = pair_at(query, pair);
+    let n = heads_room(query, at.target);
+    let from = built.from + Limits::TREE;
+    let to = from + Limits::TREE;
+    let total = total_over(query, at.source, work, members);
+    let r = write_total(work, total, Span { from: from + n, to });
+    let o = place_value(work, query, at.target, Span { from, to }, r);
+    add_written(work, built, o)
+}
+
+/// Adds to the tree so far what the aggregate gives of the class.
+fn add_aggregate(work: &mut [u8], query: &[u8], pair: Span, members: Span, built: Span) -> Out
+    requires { ⌜ PairReady (ClassAt members (built .from)) Fits (now work) (now query) pair built ⌝ }
+    ensures { λ r. ⌜ PairGrows (ClassAt members (built .from)) Fits (onePart aggregateValue) (now (work .entry)) (now (work .exit)) (now (query .entry)) pair built r ⌝ }
+{
+    if is_total(query, pair) {
+        return add_total(work, query, pair, members, built);
+    }
+    add_joined(work, query, pair, members, built)
+}
+
 /// The same of each aggregate.
 fn add_aggregates(
     work: &mut [u8],
@@ -40,8 +70,8 @@ fn add_aggregates(
     members: Span,
     built: Span,
 ) -> Out
-    requires { ⌜ PairsReady (ClassAt members (built .from)) (now work) (now query) aggregates built ⌝ }
-    ensures { λ r. ⌜ PairsGrow (ClassAt members (built .from)) (onePart aggregateValue) (now (work .entry)) (now (work .exit)) (now (query .entry)) aggregates built r ⌝ }
+    requires { ⌜ PairsReady (ClassAt members (built .from)) Fits (now work) (now query) aggregates built ⌝ }
+    ensures { λ r. ⌜ PairsGrow (ClassAt members (built .from)) Fits (onePart aggregateValue) (now (work .entry)) (now (work .exit)) (now (query .entry)) aggregates built r ⌝ }
 {
     let last = aggregates.to;
     let base = built.from;
@@ -62,8 +92,8 @@ fn add_aggregates(
 
 /// Adds to the tree so far what the grouping pair gives of the class's first tree.
 fn add_identity(work: &mut [u8], query: &[u8], pair: Span, first: Span, built: Span) -> Out
-    requires { ⌜ PairReady (FirstAt first (built .from)) (now work) (now query) pair built ⌝ }
-    ensures { λ r. ⌜ PairGrows (FirstAt first (built .from)) (onePart identityValue) (now (work .entry)) (now (work .exit)) (now (query .entry)) pair built r ⌝ }
+    requires { ⌜ PairReady (FirstAt first (built .from)) Always (now work) (now query) pair built ⌝ }
+    ensures { λ r. ⌜ PairGrows (FirstAt first (built .from)) Always (onePart identityValue) (now (work .entry)) (now (work .exit)) (now (query .entry)) pair built r ⌝ }
 {
     let at = pair_at(query, pair);
     let n = heads_room(query, at.target);
@@ -77,8 +107,8 @@ fn add_identity(work: &mut [u8], query: &[u8], pair: Span, first: Span, built: S
 
 /// The same, if the pair is in the class's subset: a source that is absent adds nothing.
 fn add_sourced(work: &mut [u8], query: &[u8], pair: Span, first: Span, built: Span) -> Out
-    requires { ⌜ PairReady (FirstAt first (built .from)) (now work) (now query) pair built ⌝ }
-    ensures { λ r. ⌜ PairGrows (FirstAt first (built .from)) sourcedPart (now (work .entry)) (now (work .exit)) (now (query .entry)) pair built r ⌝ }
+    requires { ⌜ PairReady (FirstAt first (built .from)) Always (now work) (now query) pair built ⌝ }
+    ensures { λ r. ⌜ PairGrows (FirstAt first (built .from)) Always sourcedPart (now (work .entry)) (now (work .exit)) (now (query .entry)) pair built r ⌝ }
 {
     let at = pair_at(query, pair);
     if !present(query, at.source, 0, work, first) {
@@ -89,8 +119,8 @@ fn add_sourced(work: &mut [u8], query: &[u8], pair: Span, first: Span, built: Sp
 
 /// The same of each grouping pair.
 fn add_identities(work: &mut [u8], query: &[u8], keys: Span, first: Span, built: Span) -> Out
-    requires { ⌜ PairsReady (FirstAt first (built .from)) (now work) (now query) keys built ⌝ }
-    ensures { λ r. ⌜ PairsGrow (FirstAt first (built .from)) sourcedPart (now (work .entry)) (now (work .exit)) (now (query .entry)) keys built r ⌝ }
+    requires { ⌜ PairsReady (FirstAt first (built .from)) Always (now work) (now query) keys built ⌝ }
+    ensures { λ r. ⌜ PairsGrow (FirstAt first (built .from)) Always sourcedPart (now (work .entry)) (now (work .exit)) (now (query .entry)) keys built r ⌝ }
 {
     let last = keys.to;
     let base = built.from;

@@ -11,6 +11,7 @@ use Rattle.spec_trees.specs.Within.{AllowedA}
 use Rattle.spec_queries.specs.Query.{Pair, Stage}
 use Rattle.queries.specs.Places.{Pairs}
 use Rattle.spec_stages.specs.Group.{Class, classTree}
+use Rattle.spec_stages.specs.FitLaws.{ClassFits}
 use Rattle.spec_stages.specs.Flat.{flat}
 use Rattle.spec_stages.specs.Stages.{State, after, stages}
 use Rattle.spec_stages.specs.Positions.{Borne, marked, sole, carried}
@@ -20,7 +21,8 @@ use Rattle.spec_stages.specs.Stretch.{before}
 use Rattle.map.specs.Map.{treesMax, lentPart, rooms, groupMin}
 use Rattle.stream.specs.Feed.{Planned}
 use Rattle.arrange.specs.Arrange.{Arranged}
-use Rattle.stretch.specs.Carry.{Position, Shows}
+use Rattle.stretch.specs.Carry.{Shows}
+use Rattle.classes.specs.Read.{Stems}
 
 -- in q stand its pairs and the stages, in j the joined trees; in what is lent to the stages there is room for the front
 -- part, for a tree at each of the stages, for building and for the collector
@@ -34,11 +36,7 @@ pub record GroupPlan (size : ℕ) (q : List ℕ) (at : StretchAt) (j : List ℕ)
   pub room : rooms (length (before list)) + groupMin ≤ size
   pub small : size ≤ workMin
 
--- each class has the position of its first tree, which p gives
-abbrev pub Stems : (Tree → ℕ) → List Class → Type 0
-Stems p cs = All (λ c. Position (p (c .0))) cs
-
--- the classes stand at the front, up to n
+-- the classes stand at the front, up to n, and their totals fit
 pub record GroupReady (w : List ℕ) (n : ℕ) (q : List ℕ) (at : StretchAt) (j : List ℕ) : Type 0 where
   pub plan : GroupPlan lentPart q at j
   pub size : length w ≡ workMin
@@ -46,6 +44,7 @@ pub record GroupReady (w : List ℕ) (n : ℕ) (q : List ℕ) (at : StretchAt) (
   pub classes : List Class
   pub stems : Stems stem classes
   pub allowed : AllowedA (flat classes)
+  pub fits : (ags gs : List Pair) → Pairs q (at .group) ags gs → All (ClassFits ags) classes
   pub stands : Arranged w n stem classes
   pub short : n ≤ treesMax
 
@@ -60,5 +59,5 @@ borneThrough us ss ags gs p cs = carried us (before ss) (gather (λ c. marked (p
 -- whatever stands there, what leaves the stretch was collected
 abbrev pub GroupPost : (w v : List ℕ) (n : ℕ) (q : List ℕ) (at : StretchAt) (j : List ℕ) → Collector → Type 0
 GroupPost w v n q at j r = (ags gs : List Pair) (p : Tree → ℕ) (cs : List Class) (ss : List Stage) (us : List Tree)
-    → Pairs q (at .group) ags gs → Stems p cs → AllowedA (flat cs) → Arranged w n p cs → Planned q (at .next) j ss us
+    → Pairs q (at .group) ags gs → Stems p cs → AllowedA (flat cs) × All (ClassFits ags) cs → Arranged w n p cs → Planned q (at .next) j ss us
     → Shows v r (through us ss ags gs cs) (borneThrough us ss ags gs p cs)

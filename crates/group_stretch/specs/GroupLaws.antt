@@ -13,7 +13,7 @@ use Rattle.areas.specs.declared.span.Span.{Span}
 use Rattle.spec_trees.specs.Options.{_>>=_}
 use Rattle.spec_trees.specs.OptionLaws.{true-T, some-equal}
 use Rattle.spec_trees.specs.Lists.{filter, All, gather, each}
-use Rattle.spec_trees.specs.ListLaws.{All-left, All-right, All-append, All-filter, All-map}
+use Rattle.spec_trees.specs.ListLaws.{All-append, All-filter, All-map, All-both}
 use Rattle.spec_trees.specs.FilterLaws.{gather-append}
 use Rattle.spec_trees.specs.Limits.{depthMax, groupingMax, positionsMin, workMin}
 use Rattle.spec_trees.specs.Tree.{Tree, bareVoid}
@@ -25,14 +25,15 @@ use Rattle.areas.specs.Number.{twoAt}
 use Rattle.spec_queries.specs.Query.{Pair, Stage}
 use Rattle.spec_queries.specs.Rules.{OkPair, OkPairs}
 use Rattle.queries.specs.Places.{Pairs}
-use Rattle.spec_stages.specs.Paths.{over, apply}
+use Rattle.spec_stages.specs.Paths.{apply}
 use Rattle.spec_stages.specs.Merge.{merge, build}
-use Rattle.spec_stages.specs.Group.{Class, aggregated, identified, sourced, classTree}
+use Rattle.spec_stages.specs.Group.{Class, aggregate, aggregated, totalFits, identified, sourced, classTree}
+use Rattle.spec_stages.specs.FitLaws.{ClassFits}
 use Rattle.spec_stages.specs.Flat.{members, flat}
 use Rattle.spec_stages.specs.Stages.{going, large, after, stages}
 use Rattle.spec_stages.specs.Join.{beside}
 use Rattle.spec_stages.specs.JoinLaws.{each-join}
-use Rattle.spec_stages.specs.KeepLaws.{merge-ok, over-ok, apply-ok, labelled, placed-ok, allowed-ok, fits-allowed}
+use Rattle.spec_stages.specs.KeepLaws.{merge-ok, aggregate-ok, apply-ok, labelled, placed-ok, allowed-ok, fits-allowed}
 use Rattle.spec_stages.specs.Positions.{Borne, marked, sole, carried}
 use Rattle.spec_stages.specs.LocalLaws.{carried-append, carried-sole}
 use Rattle.spec_stages.specs.Stretch.{before}
@@ -50,13 +51,14 @@ use Rattle.stream.specs.TailLaws.{tail-is, tail-length, lent-front, ends-beyond
 use Rattle.stream.specs.Feed.{Planned, Front, FeedReady, FeedPost}
 use Rattle.arrange.specs.Index.{numbersAt}
 use Rattle.arrange.specs.Arrange.{arranged}
-use Rattle.group_stretch.specs.declared.classes.Reached.{Reached}
+use Rattle.classes.specs.declared.read.Reached.{Reached}
 use Rattle.stretch.specs.declared.next.StretchAt.{StretchAt}
-use Rattle.group_stretch.specs.Group.{GroupPlan, Stems, GroupReady, GroupPost, through, borneThrough}
-use Rattle.group_stretch.specs.Grouping.{reached, Unread, EndReady, EndIs, ClassStands, ClassFrom, ClassFed}
+use Rattle.group_stretch.specs.Group.{GroupPlan, GroupReady, GroupPost, through, borneThrough}
+use Rattle.group_stretch.specs.Grouping.{ClassStands, ClassFrom, ClassFed}
+use Rattle.classes.specs.Read.{Stems, reached, Unread, EndReady, EndIs}
 use Rattle.stretch.specs.Carry.{lentArea, Holds, Carries, SinceReady, MarkedSince}
 use Rattle.stretch.specs.CarryLaws.{lent-length, holds-open, holds-nothing, carries-holds, carries-none, carries-beside, carries-halt, since-ready, carries-one, back-length, back-lent, back-behind, shows-all}
-use Rattle.group_stretch.specs.ReadLaws.{unread-keep, unread-all, ClassParts, class-none, class-parts}
+use Rattle.classes.specs.ReadLaws.{first-allowed, others-allowed, unread-keep, unread-all, ClassParts, class-none, class-parts}
 
 -- ---- the tree of a class is allowed
 built-ok : (s : Tree) (ts : List Tree) {y : Tree} → Ok s → All Ok ts → build s ts ≡ some y → Ok y
@@ -68,17 +70,17 @@ built-ok s (t ∷ ts) {y} o p e = go (fits t && fits (merge s t)) e (λ k. built
     go true e k = k e
     go false e k = let z : _≡_ {A = ℕ} 0 1 = cc in absurd (omega arith)
 
-class-allowed : {n : ℕ} (ags gs : List Pair) (c : Class) {y : Tree} → OkPairs n ags → OkPairs groupingMax gs → AllowedA (members c)
+class-allowed : {n : ℕ} (ags gs : List Pair) (c : Class) {y : Tree} → OkPairs n ags → OkPairs groupingMax gs → AllowedA (members c) → ClassFits ags c
     → classTree ags gs c ≡ some y → Allowed depthMax y
 unfolding classTree aggregated identified
-class-allowed ags gs c {y} oa og o e =
+class-allowed ags gs c {y} oa og o f e =
     let parts : List Tree = map (aggregated c) ags ++ map (identified c) (filter (sourced c) gs) in
     let oks = allowed-ok (members c) o in
     let ok : All Ok parts =
     All-append Ok (map (aggregated c) ags) (map (identified c) (filter (sourced c) gs))
-    (All-map OkPair Ok (aggregated c)
-    (λ p l. placed-ok (p .target) (labelled (p .target) (l .1 .0)) (over (apply (p .source)) (members c)) (over-ok (apply (p .source)) (apply-ok (p .source)) (members c) oks))
-    ags (oa .0))
+    (All-map (λ p. OkPair p × (totalFits p c ≡ true)) Ok (aggregated c)
+    (λ p l. placed-ok (p .target) (labelled (p .target) (l .0 .1 .0)) (aggregate p (members c)) (aggregate-ok p c oks (l .1)))
+    ags (All-both OkPair (λ p. totalFits p c ≡ true) ags (oa .0) f))
     (All-map OkPair Ok (identified c)
     (λ p l. placed-ok (p .target) (labelled (p .target) (l .1 .0)) (apply (p .source) (c .0)) (apply-ok (p .source) (c .0) (o .0 .ok)))
     (filter (sourced c) gs) (All-filter OkPair (sourced c) gs (og .0)))
@@ -146,31 +148,32 @@ module _ {w : List ℕ} {x : Span} {e : ℕ} {q : List ℕ} {at : StretchAt} {j 
     grouping = record { value = c .plan .grouping; allowed = pairs₀ .grouping-ok; value-is = pairs₀ .grouping-is };
     first = record { value = c .one .0; allowed = c .stands .allowed .0; value-is = c .stands .first-is };
     rest = record { value = c .one .1; allowed = c .stands .allowed .1; value-is = c .stands .rest-is };
+    fits = c .fits;
     below = c .below;
     room = omega (arith, c .plan .room);
     small = c .plan .small;
   }
 
   module _ {y : List ℕ} {o : Out} (l : length y ≡ length w) (makes : MakesClass w y q (at .group) x e frontPart o) where
-    made : (ags gs : List Pair) (d : Class) → Pairs q (at .group) ags gs → ClassStands w x e d → Made w y frontPart (classTree ags gs d) o
-    made ags gs d hp h =
-        makes ags gs (d .0) (d .1) (hp .aggregates-ok) (hp .aggregates-is) (hp .grouping-ok) (hp .grouping-is) (h .allowed .0) (h .first-is) (h .allowed .1) (h .rest-is)
+    made : (ags gs : List Pair) (d : Class) → Pairs q (at .group) ags gs → ClassStands w x e d → ClassFits ags d → Made w y frontPart (classTree ags gs d) o
+    made ags gs d hp h f =
+        makes ags gs (d .0) (d .1) (hp .aggregates-ok) (hp .aggregates-is) (hp .grouping-ok) (hp .grouping-is) (h .allowed .0) (h .first-is) (h .allowed .1) (h .rest-is) f
 
     made-here : Made w y frontPart (classTree (c .plan .aggregates) (c .plan .grouping) (c .one)) o
-    made-here = made (c .plan .aggregates) (c .plan .grouping) (c .one) pairs₀ (c .stands)
+    made-here = made (c .plan .aggregates) (c .plan .grouping) (c .one) pairs₀ (c .stands) (c .fits)
 
     pub class-large : o ≡ TooLarge → ClassFed w y x e q at j s Large
     class-large z = record {
       kept = made-here .below;
-      feeds = λ ags gs d ss us hp h hl.
-          subst (λ i. Feeds w s y Large i) (sym (through-large us ss ags gs d (made ags gs d hp h .large z))) (feeds-large w y s us (before ss));
+      feeds = λ ags gs d ss us hp h f hl.
+          subst (λ i. Feeds w s y Large i) (sym (through-large us ss ags gs d (made ags gs d hp h f .large z))) (feeds-large w y s us (before ss));
     }
 
     module _ {i : ℕ} (z : o ≡ At i) where
-      class-front : (ags gs : List Pair) (d : Class) → Pairs q (at .group) ags gs → AllowedA (members d)
+      class-front : (ags gs : List Pair) (d : Class) → Pairs q (at .group) ags gs → AllowedA (members d) → ClassFits ags d
           → (k : Made w y frontPart (classTree ags gs d) o) → Front (tail frontPart y) (i - frontPart) (k .tree-is i z .tree)
-      class-front ags gs d hp h k = record {
-        allowed = class-allowed ags gs d (hp .aggregates-ok) (hp .grouping-ok) h (k .tree-is i z .same);
+      class-front ags gs d hp h f k = record {
+        allowed = class-allowed ags gs d (hp .aggregates-ok) (hp .grouping-ok) h f (k .tree-is i z .same);
         tree-is = tail-is frontPart y (k .tree-is i z .stands);
       }
 
@@ -183,7 +186,7 @@ module _ {w : List ℕ} {x : Span} {e : ℕ} {q : List ℕ} {at : StretchAt} {j 
         joined = c .plan .joined;
         tree = made-here .tree-is i z .tree;
         planned = c .plan .planned;
-        front = class-front (c .plan .aggregates) (c .plan .grouping) (c .one) pairs₀ (c .stands .allowed) made-here;
+        front = class-front (c .plan .aggregates) (c .plan .grouping) (c .one) pairs₀ (c .stands .allowed) (c .fits) made-here;
         room = omega (arith, c .plan .room, tail-length frontPart y);
         small = omega (arith, c .plan .small, tail-length frontPart y);
         goes = c .goes;
@@ -193,26 +196,25 @@ module _ {w : List ℕ} {x : Span} {e : ℕ} {q : List ℕ} {at : StretchAt} {j 
         pub class-fed : ClassFed w (lent frontPart y y2) x e q at j s r
         class-fed = record {
           kept = lent-front frontPart y y2 (class-places .1) l2 ∙ made-here .below;
-          feeds = λ ags gs d ss us hp h hl.
-              let k = made ags gs d hp h in
+          feeds = λ ags gs d ss us hp h f hl.
+              let k = made ags gs d hp h f in
               subst (λ st. Feeds w s (lent frontPart y y2) r st) (sym (through-one us ss ags gs d (k .tree-is i z .same)))
               (feeds-lent frontPart y y2 (omega (arith, c .plan .room)) (ends-beyond w y (frontPart + building) l (omega (arith, c .plan .room)) (made-here .beyond)) l2
-              (p ss us (k .tree-is i z .tree) hl (class-front ags gs d hp (h .allowed) k)));
+              (p ss us (k .tree-is i z .tree) hl (class-front ags gs d hp (h .allowed) f k)));
         }
 
 -- ---- one class after another
-first-allowed : (c : Class) (cs : List Class) → AllowedA (flat (c ∷ cs)) → AllowedA (members c)
-unfolding flat gather
-first-allowed c cs o = All-left (Allowed depthMax) (members c) (flat cs) o
+-- classes that are allowed, and whose totals fit
+abbrev ClassesOk : List Pair → List Class → Type 0
+ClassesOk ags cs = AllowedA (flat cs) × All (ClassFits ags) cs
 
-others-allowed : (c : Class) (cs : List Class) → AllowedA (flat (c ∷ cs)) → AllowedA (flat cs)
-unfolding flat gather
-others-allowed c cs o = All-right (Allowed depthMax) (members c) (flat cs) o
+others-ok : (ags : List Pair) (c : Class) (cs : List Class) → ClassesOk ags (c ∷ cs) → ClassesOk ags cs
+others-ok ags c cs o = (others-allowed c cs (o .0), o .1 .1)
 
 -- whatever classes are left go through the stages
 abbrev pub GroupFrom : (w : List ℕ) (n : ℕ) (q : List ℕ) (at : StretchAt) (j : List ℕ) (s : Collector) (v : List ℕ) (f : Reached) → Collector → Type 0
 GroupFrom w n q at j s v f r = (ags gs : List Pair) (p : Tree → ℕ) (cs : List Class) (ss : List Stage) (us : List Tree) → Pairs q (at .group) ags gs
-    → Stems p cs → AllowedA (flat cs) → Unread w f n (arranged p cs) → Planned q (at .next) j ss us
+    → Stems p cs → ClassesOk ags cs → Unread w f n (arranged p cs) → Planned q (at .next) j ss us
     → Carries w s v r (through us ss ags gs cs) (borneThrough us ss ags gs p cs)
 
 -- what is right for those that are left is right for all
@@ -221,6 +223,7 @@ pub record GroupGoing (w₀ : List ℕ) (n : ℕ) (q : List ℕ) (at : StretchAt
   pub left : List Class
   pub stems : Stems stem left
   pub allowed : AllowedA (flat left)
+  pub fits : (ags gs : List Pair) → Pairs q (at .group) ags gs → All (ClassFits ags) left
   pub unread : Unread w f n (arranged stem left)
   pub same : length w ≡ length w₀
   pub borne : List Borne
@@ -234,6 +237,7 @@ module _ {w₀ : List ℕ} {n : ℕ} {q : List ℕ} {at : StretchAt} {j : List �
     left = c .classes;
     stems = c .stems;
     allowed = c .allowed;
+    fits = c .fits;
     unread = unread-all (c .stands);
     same = refl;
     borne = [];
@@ -307,19 +311,24 @@ module _ {w₀ : List ℕ} {n : ℕ} {q : List ℕ} {at : StretchAt} {j : List �
         plan : GroupPlan (length (lentArea w)) q at j
         plan = subst (λ z. GroupPlan z q at j) (sym (lent-length w size)) (c .plan)
 
+        fits-here : (ags gs : List Pair) → Pairs q (at .group) ags gs → All (ClassFits ags) (here .first ∷ here .others)
+        fits-here ags gs hp = subst (All (ClassFits ags)) (here .same) (i .fits ags gs hp)
+
         pub group-class : ClassFrom (lentArea w) (span (f .to) m) (e .to) q at j s
         group-class = record {
           plan = plan;
           one = here .first;
           stands = stands (i .stem) (i .left) (i .stems) (i .allowed) (i .unread);
+          fits = fits-here (plan .aggregates) (plan .grouping) (plan .pairs) .0;
           below = omega (arith, group-less, c .short);
           goes = holds-open w s (i .borne) (i .holds);
         }
 
         module _ {y : List ℕ} {r : Collector} (ly : length y ≡ length (lentArea w)) (t : ClassFed (lentArea w) y (span (f .to) m) (e .to) q at j s r) where
-          fed : (ags gs : List Pair) (p : Tree → ℕ) (cs : List Class) (ss : List Stage) (us : List Tree) → Pairs q (at .group) ags gs → Stems p cs → AllowedA (flat cs)
+          fed : (ags gs : List Pair) (p : Tree → ℕ) (cs : List Class) (ss : List Stage) (us : List Tree) → Pairs q (at .group) ags gs → Stems p cs → ClassesOk ags cs
               → (h : Unread w f n (arranged p cs)) → Planned q (at .next) j ss us → Feeds (lentArea w) s y r (through us ss ags gs (parts p cs h .first ∷ []))
-          fed ags gs p cs ss us hp o a h hl = t .feeds ags gs (parts p cs h .first) ss us hp (stands p cs o a h) hl
+          fed ags gs p cs ss us hp o a h hl =
+              t .feeds ags gs (parts p cs h .first) ss us hp (stands p cs o (a .0) h) (subst (All (ClassFits ags)) (parts p cs h .same) (a .1) .0) hl
 
           pub group-stop : (u : List ℕ) → isLarge r ≡ true → GroupPost w₀ u n q at j Large
           group-stop u z = group-all (i .right u Large stop)
@@ -340,19 +349,22 @@ module _ {w₀ : List ℕ} {n : ℕ} {q : List ℕ} {at : StretchAt} {j : List �
           pub group-back : length u ≡ length w₀
           group-back = size-u ∙ sym (c .size)
 
-          fed-back : (ags gs : List Pair) (p : Tree → ℕ) (cs : List Class) (ss : List Stage) (us : List Tree) → Pairs q (at .group) ags gs → Stems p cs → AllowedA (flat cs)
+          fed-back : (ags gs : List Pair) (p : Tree → ℕ) (cs : List Class) (ss : List Stage) (us : List Tree) → Pairs q (at .group) ags gs → Stems p cs → ClassesOk ags cs
               → (h : Unread w f n (arranged p cs)) → Planned q (at .next) j ss us → Feeds (lentArea w) s (lentArea u) r (through us ss ags gs (parts p cs h .first ∷ []))
           fed-back ags gs p cs ss us hp o a h hl =
               subst (λ x. Feeds (lentArea w) s x r (through us ss ags gs (parts p cs h .first ∷ []))) (sym (back-lent w y size ly)) (fed ags gs p cs ss us hp o a h hl)
 
+          ok-here : ClassesOk (plan .aggregates) (i .left)
+          ok-here = (i .allowed, i .fits (plan .aggregates) (plan .grouping) (plan .pairs))
+
           fed-here : Feeds (lentArea w) s (lentArea u) r (through (plan .joined) (plan .list) (plan .aggregates) (plan .grouping) (here .first ∷ []))
-          fed-here = fed-back (plan .aggregates) (plan .grouping) (i .stem) (i .left) (plan .list) (plan .joined) (plan .pairs) (i .stems) (i .allowed) (i .unread) (plan .planned)
+          fed-here = fed-back (plan .aggregates) (plan .grouping) (i .stem) (i .left) (plan .list) (plan .joined) (plan .pairs) (i .stems) ok-here (i .unread) (plan .planned)
 
           pub group-since : SinceReady u s r
           group-since = since-ready w u size size-u fed-here (i .borne) (i .holds)
 
           module _ {v : List ℕ} {a : ℕ} (lv : length v ≡ length u) (x : a ≡ twoAt w (numbersAt + 2 * f .count)) (b : MarkedSince u v s r a) where
-            one : (ags gs : List Pair) (p : Tree → ℕ) (cs : List Class) (ss : List Stage) (us : List Tree) → Pairs q (at .group) ags gs → Stems p cs → AllowedA (flat cs)
+            one : (ags gs : List Pair) (p : Tree → ℕ) (cs : List Class) (ss : List Stage) (us : List Tree) → Pairs q (at .group) ags gs → Stems p cs → ClassesOk ags cs
                 → (h : Unread w f n (arranged p cs)) → Planned q (at .next) j ss us
                 → Carries w s v r (through us ss ags gs (parts p cs h .first ∷ [])) (borneThrough us ss ags gs p (parts p cs h .first ∷ []))
             one ags gs p cs ss us hp o ok h hl =
@@ -373,16 +385,17 @@ module _ {w₀ : List ℕ} {n : ℕ} {q : List ℕ} {at : StretchAt} {j : List �
               left = here .others;
               stems = stems-here .1;
               allowed = others-allowed (here .first) (here .others) (subst (λ l. AllowedA (flat l)) (here .same) (i .allowed));
+              fits = λ ags gs hp. fits-here ags gs hp .1;
               unread = unread-keep (c .short) kept (behind (i .stem) (i .left) (i .stems) (i .unread));
               same = lv ∙ size-u ∙ sym (c .size);
               borne = i .borne ++ borneThrough (plan .joined) (plan .list) (plan .aggregates) (plan .grouping) (i .stem) (here .first ∷ []);
               holds =
                   carries-holds _ _ (i .borne)
-                  (one (plan .aggregates) (plan .grouping) (i .stem) (i .left) (plan .list) (plan .joined) (plan .pairs) (i .stems) (i .allowed) (i .unread) (plan .planned)) z (i .holds);
+                  (one (plan .aggregates) (plan .grouping) (i .stem) (i .left) (plan .list) (plan .joined) (plan .pairs) (i .stems) ok-here (i .unread) (plan .planned)) z (i .holds);
               right = λ v2 t2 next. i .right v2 t2 (λ ags gs p cs ss us hp o ok h hl.
                   let d = parts p cs h in
                   subst (λ l. Carries w s v2 t2 (through us ss ags gs l) (borneThrough us ss ags gs p l)) (sym (d .same))
                   (through-more us ss ags gs p (d .first ∷ []) (d .others) (one ags gs p cs ss us hp o ok h hl) z
-                  (next ags gs p (d .others) ss us hp (others-stem p cs o h) (others-allowed (d .first) (d .others) (subst (λ l. AllowedA (flat l)) (d .same) ok))
+                  (next ags gs p (d .others) ss us hp (others-stem p cs o h) (others-ok ags (d .first) (d .others) (subst (ClassesOk ags) (d .same) ok))
                   (unread-keep (c .short) kept (behind p cs o h)) hl)));
             }

@@ -2,5 +2,4 @@
 pub mod Group
 pub mod Grouping
 -- Laws.
-pub mod ReadLaws
 pub mod GroupLaws

@@ -1,2 +1,2 @@
 //! A group and the stages behind it, over the classes of an array.
-pub mod classes;
+pub mod regroup;

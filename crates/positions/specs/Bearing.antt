@@ -3,7 +3,7 @@ use mathlib.Core.Path.{_≡_}
 use mathlib.Core.List.{List, [], _∷_}
 use Prim.Native.Nat.{ℕ, _+_, _≤_}
 use lib.ListN.{length, take}
-use Rattle.spec_trees.specs.Limits.{workMin}
+use Rattle.spec_trees.specs.Limits.{positionsMin, workMin}
 use Rattle.spec_trees.specs.Tree.{Tree}
 use Rattle.spec_trees.specs.Bytes.{treeBytes}
 use Rattle.areas.specs.Area.{Is}
@@ -11,6 +11,10 @@ use Rattle.areas.specs.Number.{twoAt}
 use Rattle.queries.specs.Places.{arrayTrees}
 use Rattle.spec_stages.specs.Positions.{Borne, marked, numbered}
 use Rattle.map.specs.Map.{treesMax, lentPart, collectedAt, positionAt}
+
+-- the trees of an array bear 1 to 2,730
+abbrev pub Position : ℕ → Type 0
+Position i = (1 ≤ i) × (i ≤ positionsMin)
 
 -- the trees bs, of which the first stands at x, bear these positions
 unfoldable pub Bears : List ℕ → ℕ → List Borne → Type 0

@@ -12,7 +12,7 @@ use Rattle.spec_trees.specs.Limits.{nestMax, aggregatesMax, groupingMax}
 use Rattle.spec_trees.specs.Bytes.{Field}
 use Rattle.spec_trees.specs.Readers.{fields}
 use Rattle.spec_trees.specs.Decode.{arrayR}
-use Rattle.spec_queries.specs.Decode.{pathR, criterionR, divisorR, dataR, itemR, pairR, pairsR, stageR, queryR}
+use Rattle.spec_queries.specs.Decode.{pathR, criterionR, divisorR, dataR, itemR, pairR, aggregateR, pairsR, stageR, queryR}
 use Rattle.areas.specs.declared.span.Span.{Span}
 use Rattle.queries.specs.declared.check.Told.{Told}
 use Rattle.queries.specs.declared.check.Told.the-variants.{Good, Fields}
@@ -44,8 +44,9 @@ fieldOk d f =
     (cond (leb (f .0) 46) (some? (divisorR f))
     (cond (leb (f .0) 48) (some? (itemR f))
     (cond (leb (f .0) 49) (some? (pairR f))
-    (cond (leb (f .0) 50) (some? (pairsR 50 aggregatesMax f))
-    (some? (pairsR 51 groupingMax f)))))))))))
+    (cond (leb (f .0) 50) (some? (pairsR aggregateR 50 aggregatesMax f))
+    (cond (leb (f .0) 51) (some? (pairsR pairR 51 groupingMax f))
+    (some? (aggregateR f))))))))))))
 
 -- ---- by the table; ok is the test of the fields inside
 -- a field that stands where the table allows such a child

@@ -1,7 +1,7 @@
 -- The readers are right: the tag that stands at a place says which constructor stands there, and where its parts stand.
-use mathlib.Core.Path.{_≡_, refl, sym, subst, _∙_}
+use mathlib.Core.Path.{_≡_, refl, sym, ap, subst, _∙_}
 use mathlib.Core.List.{List, [], _∷_, map}
-use mathlib.Core.Bool.{cond}
+use mathlib.Core.Bool.{Bool, true, false, cond}
 use Prim.Native.Nat.{ℕ, _+_, _*_, _/_, _%_, _≤_}
 use native.Mathlib.Omega.{arith}
 use lib.ListN.{length, getD}
@@ -16,9 +16,8 @@ use Rattle.areas.specs.declared.span.Span.{Span}
 use Rattle.areas.specs.AreaLaws.{is-head, is-tail, is-tag, is-content}
 use Rattle.spec_trees.specs.OptionLaws.{T-and}
 use Rattle.format.specs.Stand.{Holds}
-use Rattle.spec_queries.specs.Query.{Route, Criterion, always, exists, equal, same, negated, both, either, Data, literal, path, listed, test, choice, reduced, Datas, Item, keep, place, Pair, Stage, match, unwind, project, group, lookup, isDivisor}
-use Rattle.spec_queries.specs.Bytes.{pathF, routeF, criterionF, divisorF, dataF, dataFs, itemF, pairF, pairsF, stageF, queryF, queryBytes}
-use Rattle.spec_queries.specs.Decode.{pairOf}
+use Rattle.spec_queries.specs.Query.{Route, Criterion, always, exists, equal, same, negated, both, either, Data, literal, path, listed, test, choice, reduced, Datas, Item, keep, place, Pair, pairWith, Stage, match, unwind, project, group, lookup, isDivisor}
+use Rattle.spec_queries.specs.Bytes.{pathF, routeF, criterionF, divisorF, dataF, dataFs, itemF, pairTag, pairF, pairsF, stageF, queryF, queryBytes}
 use Rattle.spec_queries.specs.Rules.{OkD, OkS, OkQ}
 use Rattle.queries.specs.Places.{TagNot, pathBytes, routeBytes, arrayTrees, criterionBytes, dataBytes, datasBytes, itemBytes, itemsBytes, pairBytes, pairsBytes, stageBytes, stagesBytes, HoldsOk, OnePart, TwoParts, ThreeParts, CriterionIs, ReadsCriterion, divisorAt, ReducedIs, DataIs, ReadsData, ItemIs, ReadsItem, GroupIs, LookupIs, StageIs, ReadsStage, ReadsQuery}
 use Rattle.queries.specs.PartLaws.{two-inside, three-inside, one-whole, one-held, two-whole, two-held, two-mixed, three-whole}
@@ -282,15 +281,25 @@ pub item-room : {q : List ℕ} {p m e : ℕ} → Holds itemBytes q p e → m ≡
 item-room h y a = let r = item-two (h .value) y a (h .value-is) in (r .0, r .1, h .value-is .inside)
 
 -- ---- pairs
-pub pair-reads : {q : List ℕ} {p m e : ℕ} → m ≡ fieldEnd q (p + 3) → (x : Pair) → Is q p e (pairBytes x) → TwoParts pairOf routeBytes pathBytes q (span p e) x (span (p + 3) m) (span m e)
+pub pair-reads : {q : List ℕ} {p m e : ℕ} → m ≡ fieldEnd q (p + 3) → (x : Pair) → Is q p e (pairBytes x)
+    → TwoParts (pairWith (x .isTotal)) routeBytes pathBytes q (span p e) x (span (p + 3) m) (span m e)
 unfolding pairF pathF
-pair-reads y x h = two-whole pairOf routeF pathF 49 (x .source) (x .target) y h
+pair-reads y x h = two-whole (pairWith (x .isTotal)) routeF pathF (pairTag (x .isTotal)) (x .source) (x .target) y h
 
 pub pair-room : {q : List ℕ} {p m e : ℕ} → Holds pairBytes q p e → m ≡ fieldEnd q (p + 3) → (p + 6 ≤ m) × (m + 3 ≤ e) × (e ≤ length q)
 unfolding pairF
 pair-room h y =
-    let i = two-inside 49 (routeF (h .value .source)) (pathF (h .value .target)) y (h .value-is) in
+    let i = two-inside (pairTag (h .value .isTotal)) (routeF (h .value .source)) (pathF (h .value .target)) y (h .value-is) in
     (i .after, i .within, h .value-is .inside)
+
+-- only a total has the tag 54
+total-tag : (b : Bool) → eqb (pairTag b) 54 ≡ b
+total-tag true = refl
+total-tag false = refl
+
+pub total-reads : {q : List ℕ} {p e : ℕ} → (x : Pair) → Is q p e (pairBytes x) → eqb (getD q p 0) 54 ≡ x .isTotal
+unfolding pairF
+total-reads x h = ap (λ t. eqb t 54) (is-tag (pairF x) h) ∙ total-tag (x .isTotal)
 
 -- ---- stages
 abbrev pub groupAt : Span → Span → GroupAt

@@ -3,6 +3,7 @@
 -- by its trees, pairs by themselves.
 use mathlib.Core.Path.{_≡_}
 use mathlib.Core.List.{List, map}
+use mathlib.Core.Bool.{Bool}
 use Prim.Native.Nat.{ℕ, _+_, _*_, _≤_}
 use lib.ListN.{getD}
 use Rattle.spec_trees.specs.Limits.{aggregatesMax, groupingMax}
@@ -11,9 +12,8 @@ use Rattle.spec_trees.specs.Bytes.{fieldBytes, bytes}
 use Rattle.areas.specs.Area.{Is, IsAt}
 use Rattle.areas.specs.declared.span.Span.{Span}
 use Rattle.format.specs.Stand.{treesBytes, Holds}
-use Rattle.spec_queries.specs.Query.{Path, Route, Criterion, always, exists, equal, same, negated, both, either, Data, literal, path, listed, test, choice, reduced, Datas, Item, keep, place, Pair, Stage, match, unwind, project, group, lookup}
+use Rattle.spec_queries.specs.Query.{Path, Route, Criterion, always, exists, equal, same, negated, both, either, Data, literal, path, listed, test, choice, reduced, Datas, Item, keep, place, Pair, pairWith, Stage, match, unwind, project, group, lookup}
 use Rattle.spec_queries.specs.Bytes.{pathF, routeF, criterionF, dataF, dataFs, itemF, pairF, stageF, queryBytes}
-use Rattle.spec_queries.specs.Decode.{pairOf}
 use Rattle.spec_queries.specs.Rules.{OkD, OkPairs}
 use Rattle.queries.specs.declared.criterion.CriterionAt.{CriterionAt}
 use Rattle.queries.specs.declared.data.DataAt.{DataAt}
@@ -162,10 +162,14 @@ abbrev pub ReadsItem : (q : List ℕ) (at : Span) → ItemAt → Type 0
 ReadsItem q at r = (x : Item) → IsAt q at (itemBytes x) → ItemIs q at x r
 
 abbrev pub PairIs : (q : List ℕ) (at : Span) → Pair → PairAt → Type 0
-PairIs q at x r = TwoParts pairOf routeBytes pathBytes q at x (r .source) (r .target)
+PairIs q at x r = TwoParts (pairWith (x .isTotal)) routeBytes pathBytes q at x (r .source) (r .target)
 
 abbrev pub ReadsPair : (q : List ℕ) (at : Span) → PairAt → Type 0
 ReadsPair q at r = (x : Pair) → IsAt q at (pairBytes x) → PairIs q at x r
+
+-- r is whether the pair that stands there is a total
+abbrev pub TotalIs : (q : List ℕ) (at : Span) → Bool → Type 0
+TotalIs q at r = (x : Pair) → IsAt q at (pairBytes x) → r ≡ x .isTotal
 
 -- ---- stages
 abbrev pub GroupIs : (q : List ℕ) (at : Span) → Stage → GroupAt → Type 0

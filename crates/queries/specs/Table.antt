@@ -44,6 +44,7 @@ kinds =
     ∷ range 46 46
     ∷ range 47 48
     ∷ range 49 49
+    ∷ child 49 49 54 54 0
     ∷ range 50 50
     ∷ range 51 51
     ∷ []
@@ -86,11 +87,15 @@ itemChild = 9
 abbrev pub pairChild : ℕ
 pairChild = 10
 
+-- a pair, which may be a total
+abbrev pub aggregateChild : ℕ
+aggregateChild = 11
+
 abbrev pub aggregatesChild : ℕ
-aggregatesChild = 11
+aggregatesChild = 12
 
 abbrev pub groupingChild : ℕ
-groupingChild = 12
+groupingChild = 13
 
 -- ---- rules
 -- by kinds, the first child, the second, and each later one; the least and the greatest count
@@ -164,8 +169,12 @@ rules =
     ∷ holdsTwo dataChild givenChild
     -- 49 pair, 50 aggregates, 51 grouping
     ∷ holdsTwo routeChild givenChild
-    ∷ holdsMany pairChild 0 aggregatesMax
+    ∷ holdsMany aggregateChild 0 aggregatesMax
     ∷ holdsMany pairChild 0 groupingMax
+    -- 52 and 53 are no tags
+    ∷ never ∷ never
+    -- 54 total
+    ∷ holdsTwo routeChild givenChild
     ∷ []
 
 -- the rule of a tag

@@ -17,9 +17,9 @@ use Rattle.spec_trees.specs.Bytes.{Field}
 use Rattle.spec_trees.specs.Readers.{Reader, Table, chosen, among, tagged}
 use Rattle.spec_trees.specs.Decode.{arrayWith, arrayR}
 use Rattle.spec_trees.specs.OptionLaws.{T-and}
-use Rattle.spec_queries.specs.Query.{always, exists, equal, same, negated, both, either, literal, path, listed, test, choice, reduced, datas, keep, place, match, unwind, project, group, lookup}
-use Rattle.spec_queries.specs.Decode.{pathR, pathR⁺, routeR, criterionR, criterionTable, divisorR, dataR, dataTable, itemR, itemTable, pairOf, pairR, pairsR, stageR, stageTable, queryR}
-use Rattle.queries.specs.Table.{child, noTags, range, mayBe, allowed, kinds, kindAt, noChild, arrayChild, stageChild, pathChild, routeChild, givenChild, criterionChild, dataChild, divisorChild, itemChild, pairChild, aggregatesChild, groupingChild, rule, never, rules, ruleAt, ruleBytes}
+use Rattle.spec_queries.specs.Query.{always, exists, equal, same, negated, both, either, literal, path, listed, test, choice, reduced, datas, keep, place, pairOf, totalPair, match, unwind, project, group, lookup}
+use Rattle.spec_queries.specs.Decode.{pathR, pathR⁺, routeR, criterionR, criterionTable, divisorR, dataR, dataTable, itemR, itemTable, pairR, aggregateR, pairsR, stageR, stageTable, queryR}
+use Rattle.queries.specs.Table.{child, noTags, range, mayBe, allowed, kinds, kindAt, noChild, arrayChild, stageChild, pathChild, routeChild, givenChild, criterionChild, dataChild, divisorChild, itemChild, pairChild, aggregateChild, aggregatesChild, groupingChild, rule, never, rules, ruleAt, ruleBytes}
 use Rattle.queries.specs.Accept.{criterionOk, dataOk, fieldOk, childOk, contentOk, byRule, leaf, nested, deeper, byTable}
 use Rattle.queries.specs.ShapeLaws.{some-only, Takes, Reads, one-ok, two-ok, three-ok, many-ok, none-ok, never-ok}
 
@@ -58,11 +58,14 @@ range-reads d low high r l h o =
     let first : (c : List ℕ) → fieldOk d (low, c) ≡ some? (r (low, c)) = λ c. h low c (omega arith) l in
     kind-reads d low high low low r h first first (λ t c out a b. o t c out)
 
+outside-other : (k t : ℕ) → Outside k k t → t ≡ k → ⊥
+outside-other k t (inl l) e = omega arith
+outside-other k t (inr l) e = omega arith
+
 -- a reader of one tag
 tagged-outside : {A : Type 0} (k : ℕ) (p : List ℕ → Option A) (t : ℕ) (c : List ℕ) → Outside k k t → some? (tagged k p (t, c)) ≡ false
 unfolding tagged only some?
-tagged-outside k p t c (inl l) = rw (ne-eqb t k (λ e. omega arith)) refl
-tagged-outside k p t c (inr l) = rw (ne-eqb t k (λ e. omega arith)) refl
+tagged-outside k p t c o = rw (ne-eqb t k (outside-other k t o)) refl
 
 tagged-reads : {A : Type 0} (d k : ℕ) (p : List ℕ → Option A) → ((c : List ℕ) → fieldOk d (k, c) ≡ some? (tagged k p (k, c))) → Takes (fieldOk d) (tagged k p) (range k k)
 tagged-reads d k p h = range-reads d k k (tagged k p) (omega arith) (λ t c a b. let e : t ≡ k = omega arith in rw e (h c)) (tagged-outside k p)
@@ -111,11 +114,22 @@ module _ (d : ℕ) where
   unfolding kindAt fieldOk pairR
   pair-reads = record { takes = tagged-reads d 49 _ (λ c. refl) }
 
-  aggregates-reads : Reads (fieldOk d) (pairsR 50 aggregatesMax) aggregatesChild
+  -- a pair, which may be a total
+  aggregate-reads : Reads (fieldOk d) aggregateR aggregateChild
+  unfolding kindAt fieldOk pairR tagged only aggregateR among chosen some?
+  aggregate-reads = record {
+    takes = kind-reads d 49 49 54 54 aggregateR
+        (λ t c a b. let e : t ≡ 49 = omega arith in rw e refl)
+        (λ c. refl)
+        (λ c. refl)
+        (λ t c o n m. rw (ne-eqb t 49 (outside-other 49 t o), ne-eqb t 54 n) refl);
+  }
+
+  aggregates-reads : Reads (fieldOk d) (pairsR aggregateR 50 aggregatesMax) aggregatesChild
   unfolding kindAt fieldOk pairsR
   aggregates-reads = record { takes = tagged-reads d 50 _ (λ c. refl) }
 
-  grouping-reads : Reads (fieldOk d) (pairsR 51 groupingMax) groupingChild
+  grouping-reads : Reads (fieldOk d) (pairsR pairR 51 groupingMax) groupingChild
   unfolding kindAt fieldOk pairsR
   grouping-reads = record { takes = tagged-reads d 51 _ (λ c. refl) }
 
@@ -206,8 +220,8 @@ each-has P (suc n) k e zero l = rw (add-zero k) (e .0)
 each-has P (suc n) k e (suc i) l = let q : k + suc i ≡ suc k + i = omega arith in rw q (each-has P n (suc k) (e .1) i (omega arith))
 
 -- over the whole table: at each tag both sides compute, and the shape's law joins them
-agreement : Each Agrees 0 52
-unfolding fieldOk arrayR arrayWith tagged only queryR stageR among chosen pathR criterionOk criterionR dataOk dataR divisorR itemR pairR pairsR some? byTable deeper nested leaf ruleAt
+agreement : Each Agrees 0 55
+unfolding fieldOk arrayR arrayWith tagged only queryR stageR among chosen pathR criterionOk criterionR dataOk dataR divisorR itemR pairR aggregateR pairsR some? byTable deeper nested leaf ruleAt
 agreement =
     -- 0 to 15
     no-tag
@@ -241,28 +255,30 @@ agreement =
     also nested-agrees 45 (λ c. refl) (λ d. two-ok reduced (route-reads d) (divisor-reads d))
     -- 46: divisors
     also leaf-agrees 46 refl
-    -- 47 to 51: items, pairs, aggregates and grouping
+    -- 47 to 54: items, pairs, aggregates and grouping, totals
     also (λ l d. one-ok keep (path-reads nestMax))
     also (λ l d. two-ok place (data-reads nestMax) (given-reads nestMax))
     also (λ l d. two-ok pairOf (route-reads nestMax) (given-reads nestMax))
-    also (λ l d. many-ok (λ ps. ps) 0 aggregatesMax (pair-reads nestMax))
+    also (λ l d. many-ok (λ ps. ps) 0 aggregatesMax (aggregate-reads nestMax))
     also (λ l d. many-ok (λ ps. ps) 0 groupingMax (pair-reads nestMax))
+    also no-tag also no-tag
+    also (λ l d. two-ok totalPair (route-reads nestMax) (given-reads nestMax))
     also tt
 
 -- above it
-above-agrees : (t : ℕ) → 52 ≤ t → Agrees t
-unfolding fieldOk pairsR tagged only some? byTable nested ruleAt
+above-agrees : (t : ℕ) → 55 ≤ t → Agrees t
+unfolding fieldOk aggregateR among chosen some? byTable nested ruleAt
 above-agrees t h l d c =
-    rw (lt-leb t 15 (omega arith), lt-leb t 16 (omega arith), lt-leb t 31 (omega arith), lt-leb t 32 (omega arith), lt-leb t 39 (omega arith), lt-leb t 45 (omega arith), lt-leb t 46 (omega arith), lt-leb t 48 (omega arith), lt-leb t 49 (omega arith), lt-leb t 50 (omega arith), le-leb 33 t (omega arith), ne-eqb t 51 (λ e. omega arith), List·getD-eq-default rules never {n = t} h)
+    rw (lt-leb t 15 (omega arith), lt-leb t 16 (omega arith), lt-leb t 31 (omega arith), lt-leb t 32 (omega arith), lt-leb t 39 (omega arith), lt-leb t 45 (omega arith), lt-leb t 46 (omega arith), lt-leb t 48 (omega arith), lt-leb t 49 (omega arith), lt-leb t 50 (omega arith), lt-leb t 51 (omega arith), le-leb 33 t (omega arith), ne-eqb t 49 (λ e. omega arith), ne-eqb t 54 (λ e. omega arith), List·getD-eq-default rules never {n = t} h)
     (sym (never-ok (fieldOk nestMax) c))
 
 -- the theorem: of every tag that holds fields, the table says what the reader of its kind reads
 pub table-agrees : (t : ℕ) → leaf t ≡ false → (d : ℕ) (c : List ℕ) → fieldOk d (t, c) ≡ byTable d t c
-table-agrees t = go (ltb t 52) refl
+table-agrees t = go (ltb t 55) refl
   where
-    go : (b : Bool) → ltb t 52 ≡ b → Agrees t
-    go true e = rw zero-add at (each-has Agrees 52 0 agreement t (leb-true (suc t) 52 e))
-    go false e = above-agrees t (omega (arith, leb-false (suc t) 52 e))
+    go : (b : Bool) → ltb t 55 ≡ b → Agrees t
+    go true e = rw zero-add at (each-has Agrees 55 0 agreement t (leb-true (suc t) 55 e))
+    go false e = above-agrees t (omega (arith, leb-false (suc t) 55 e))
 
 -- ---- the code's table
 -- a number that is none of the list, the last one first, as a match leaves it
@@ -302,31 +318,31 @@ other-row e = refl
 abbrev Row : ℕ → Type 0
 Row t = rule (getD ruleBytes (t * 5) 0) (getD ruleBytes (t * 5 + 1) 0) (getD ruleBytes (t * 5 + 2) 0) (getD ruleBytes (t * 5 + 3) 0) (getD ruleBytes (t * 5 + 4) 0) ≡ ruleAt t
 
-table-rows : Each Row 0 52
+table-rows : Each Row 0 55
 unfolding ruleAt
 table-rows =
     refl also refl also refl also refl also refl also refl also refl also refl also refl also refl also refl also refl also refl
     also refl also refl also refl also refl also refl also refl also refl also refl also refl also refl also refl also refl also refl
     also refl also refl also refl also refl also refl also refl also refl also refl also refl also refl also refl also refl also refl
     also refl also refl also refl also refl also refl also refl also refl also refl also refl also refl also refl also refl also refl
-    also tt
+    also refl also refl also refl also tt
 
-pub rule-row : (t : ℕ) → t < 52 → Row t
-rule-row t l = rw zero-add at (each-has Row 52 0 table-rows t l)
+pub rule-row : (t : ℕ) → t < 55 → Row t
+rule-row t l = rw zero-add at (each-has Row 55 0 table-rows t l)
 
-pub rule-out : (t : ℕ) → 52 ≤ t → ruleAt t ≡ never
+pub rule-out : (t : ℕ) → 55 ≤ t → ruleAt t ≡ never
 unfolding ruleAt
 rule-out t l = List·getD-eq-default rules never {n = t} l
 
 abbrev pub childKinds : List ℕ
-childKinds = 12 ∷ 11 ∷ 10 ∷ 9 ∷ 8 ∷ 7 ∷ 6 ∷ 5 ∷ 4 ∷ 3 ∷ 2 ∷ 1 ∷ []
+childKinds = 13 ∷ 12 ∷ 11 ∷ 10 ∷ 9 ∷ 8 ∷ 7 ∷ 6 ∷ 5 ∷ 4 ∷ 3 ∷ 2 ∷ 1 ∷ []
 
 pub kind-else : (k : ℕ) → NoneOf k childKinds → kindAt k ≡ noTags
 unfolding kindAt has
 kind-else =
-    by-rows kindAt noTags childKinds 13
+    by-rows kindAt noTags childKinds 14
     (other-row also listed-row also listed-row also listed-row also listed-row also listed-row also listed-row
-    also listed-row also listed-row also listed-row also listed-row also listed-row also listed-row also tt)
+    also listed-row also listed-row also listed-row also listed-row also listed-row also listed-row also listed-row also tt)
     (λ k l. List·getD-eq-default kinds noTags {n = k} l)
 
 -- ---- the same by the parts of the code

@@ -1,5 +1,5 @@
 //! What a project merges, and the pairs of a group: where their parts stand.
-ghost use Rattle.queries.specs.Places.{HoldsAt, itemBytes, pairBytes, ReadsItem, ReadsPair};
+ghost use Rattle.queries.specs.Places.{HoldsAt, itemBytes, pairBytes, ReadsItem, ReadsPair, TotalIs};
 use areas::area::field_end;
 use areas::span::Span;
 
@@ -53,4 +53,13 @@ pub fn pair_at(query: &[u8], pair: Span) -> PairAt
             to: pair.to,
         },
     }
+}
+
+/// Whether the pair that stands there is a total.
+pub fn is_total(query: &[u8], pair: Span) -> bool
+    requires { ⌜ HoldsAt pairBytes (now query) pair ⌝ }
+    ensures { λ r. ⌜ TotalIs (now (query .entry)) pair r ⌝ }
+{
+    let at = pair.from;
+    query[at] == 54
 }

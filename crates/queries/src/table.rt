@@ -38,15 +38,18 @@ const ITEM: u8 = 9;
 
 const PAIR: u8 = 10;
 
-const AGGREGATES: u8 = 11;
+// a pair, which may be a total
+const AGGREGATE: u8 = 11;
 
-const GROUPING: u8 = 12;
+const AGGREGATES: u8 = 12;
+
+const GROUPING: u8 = 13;
 
 /// As the table is lent to whoever looks a rule up: by where it stands alone, since its length is known.
-pub type Table = [u8; 260];
+pub type Table = [u8; 275];
 
 /// The table: by tag, the five numbers of its rule. Where the least count is above the greatest, no content passes, not
-/// even an empty one: 0 to 15 belong to trees, 22 to 31 are no tags, a path and a divisor hold no fields.
+/// even an empty one: 0 to 15 belong to trees, 22 to 31, 52 and 53 are no tags, a path and a divisor hold no fields.
 pub const RULES: Table = [
     // 0
     NONE,
@@ -349,9 +352,9 @@ pub const RULES: Table = [
     2,
     2,
     // 50 aggregates
-    PAIR,
-    PAIR,
-    PAIR,
+    AGGREGATE,
+    AGGREGATE,
+    AGGREGATE,
     0,
     Limits::AGGREGATES as u8,
     // 51 grouping
@@ -360,6 +363,24 @@ pub const RULES: Table = [
     PAIR,
     0,
     Limits::GROUPING as u8,
+    // 52
+    NONE,
+    NONE,
+    NONE,
+    1,
+    0,
+    // 53
+    NONE,
+    NONE,
+    NONE,
+    1,
+    0,
+    // 54 total
+    ROUTE,
+    GIVEN,
+    NONE,
+    2,
+    2,
 ];
 
 /// The rule of a tag, from the table, which is lent: the compiler stores a constant anew wherever it is named. A tag that
@@ -368,7 +389,7 @@ pub fn rule_of(rules: &Table, tag: u8) -> Rule
     requires { ⌜ now rules ≡ ruleBytes ⌝ }
     ensures { λ r. ⌜ r ≡ ruleAt tag ⌝ }
 {
-    if 51 < tag {
+    if 54 < tag {
         return Rule(NONE, NONE, NONE, 1, 0);
     }
     let i = tag as usize * 5;
@@ -398,6 +419,7 @@ pub fn child_of(kind: u8) -> Child
         DIVISOR => Child(46, 46, 46, 46, 0),
         ITEM => Child(47, 48, 47, 47, 0),
         PAIR => Child(49, 49, 49, 49, 0),
+        AGGREGATE => Child(49, 49, 54, 54, 0),
         AGGREGATES => Child(50, 50, 50, 50, 0),
         GROUPING => Child(51, 51, 51, 51, 0),
         _ => Child(1, 0, 256, 256, 0),

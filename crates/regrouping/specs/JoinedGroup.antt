@@ -9,7 +9,7 @@ use Rattle.spec_trees.specs.Tree.{Tree}
 use Rattle.spec_trees.specs.Bytes.{arrayBytes}
 use Rattle.spec_trees.specs.Within.{Within}
 use Rattle.spec_queries.specs.Query.{Pair}
-use Rattle.spec_queries.specs.Again.{distinctTargets, regrouped}
+use Rattle.spec_queries.specs.Again.{regroups, regrouped}
 use Rattle.spec_stages.specs.Stages.{going, stages}
 use Rattle.spec_stages.specs.Positions.{numbered, carried}
 use Rattle.queries.specs.declared.stage.GroupAt.{GroupAt}
@@ -22,7 +22,7 @@ pub record RegroupReady (q : List ℕ) (at : GroupAt) (a b w : List ℕ) : Type 
   pub aggregates : List Pair
   pub grouping : List Pair
   pub pairs : Pairs q at aggregates grouping
-  pub distinct : distinctTargets aggregates grouping ≡ true
+  pub again : regroups aggregates grouping ≡ true
   pub first : List Tree
   pub first-is : a ≡ arrayBytes first
   pub first-ok : Within first
@@ -33,6 +33,6 @@ pub record RegroupReady (q : List ℕ) (at : GroupAt) (a b w : List ℕ) : Type 
 
 -- whatever they are, r says what the regrouping of the first array's trees, and behind them the second's, comes to
 abbrev pub Regroups : (q : List ℕ) (at : GroupAt) (a b v : List ℕ) → Ended → Type 0
-Regroups q at a b v r = (ag gs : List Pair) (ts us : List Tree) → Pairs q at ag gs → distinctTargets ag gs ≡ true
+Regroups q at a b v r = (ag gs : List Pair) (ts us : List Tree) → Pairs q at ag gs → regroups ag gs ≡ true
     → a ≡ arrayBytes ts → Within ts → b ≡ arrayBytes us → Within us
     → EndedIs v r (stages [] (regrouped ag gs ∷ []) (going (ts ++ us))) (carried [] (regrouped ag gs ∷ []) (numbered 1 (ts ++ us)))

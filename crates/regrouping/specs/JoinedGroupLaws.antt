@@ -6,15 +6,17 @@ use native.Mathlib.Omega.{arith}
 use lib.ListN.{length, drop}
 use lib.Seq.{take-all}
 use Rattle.spec_trees.specs.ListLaws.{All-append, All-imply}
-use Rattle.spec_trees.specs.Limits.{positionsMin}
+use Rattle.spec_trees.specs.Limits.{positionsMin, arrayMax}
+use Rattle.spec_trees.specs.Size.{arraySize}
 use Rattle.spec_trees.specs.Tree.{Tree}
 use Rattle.spec_trees.specs.Bytes.{bytes, treeFs, arrayBytes}
 use Rattle.spec_trees.specs.Within.{Within, AllowedA}
 use Rattle.spec_queries.specs.Query.{Pair}
 use Rattle.spec_queries.specs.Again.{again, regrouped}
 use Rattle.spec_queries.specs.RegroupingLaws.{ok-again, group-short}
+use Rattle.spec_queries.specs.AgainLaws.{regroups-parts}
 use Rattle.spec_stages.specs.Stages.{going, stages}
-use Rattle.spec_stages.specs.LeaveLaws.{group-step, group-long}
+use Rattle.spec_stages.specs.LeaveLaws.{group-step, group-overflow, group-long}
 use Rattle.spec_stages.specs.Stretch.{before}
 use Rattle.areas.specs.Area.{Is, Wrote, span}
 use Rattle.areas.specs.AreaLaws.{written, is-keep}
@@ -24,7 +26,8 @@ use Rattle.queries.specs.Places.{arrayTrees, Pairs}
 use Rattle.queries.specs.TreesLaws.{array-reads}
 use Rattle.queries.specs.declared.stage.GroupAt.{GroupAt}
 use Rattle.paths.specs.ComparedLaws.{is-none, trees-append}
-use Rattle.spec_stages.specs.Positions.{unmarked, numbered, carried}
+use Rattle.spec_stages.specs.Group.{grouped, totalsFit}
+use Rattle.spec_stages.specs.Positions.{unmarked, numbered, carry, carried}
 use Rattle.spec_stages.specs.PositionLaws.{numbered-trees, carried-within}
 use Rattle.map.specs.Map.{treesMax, lentPart, collectedAt}
 use Rattle.positions.specs.Bearing.{Standing, Numbers}
@@ -33,13 +36,14 @@ use Rattle.stream.specs.Feed.{Planned}
 use Rattle.stream.specs.declared.collector.Collector.{Collector}
 use Rattle.stream.specs.declared.collector.Collector.the-variants.{Len}
 use Rattle.stretches.specs.declared.ended.Ended.{Ended}
+use Rattle.stretches.specs.declared.later.Grouped.{Grouped}
 use Rattle.stretch.specs.declared.next.StretchAt.{StretchAt}
 use Rattle.stretch.specs.Carry.{Positions, Holds}
 use Rattle.stretches.specs.Ended.{EndedIs}
 use Rattle.stretch.specs.Next.{stretchAt}
 use Rattle.group_stretch.specs.Group.{through}
-use Rattle.stretches.specs.Later.{LastPost, HeldReady, HeldPost}
-use Rattle.stretches.specs.LaterLaws.{size-is, ends-long}
+use Rattle.stretches.specs.Later.{LastPost, HeldReady, GroupedIs, HeldPost}
+use Rattle.stretches.specs.LaterLaws.{size-is, ends-long, ends-overflow}
 use Rattle.trays.specs.Again.{GroupRoom, GroupWritten}
 use Rattle.regrouping.specs.JoinedGroup.{RegroupReady, Regroups}
 
@@ -156,15 +160,36 @@ module _ {a b w x : List ℕ} {d : ℕ} {r : Out} (k : Wrote w x d (d + treesMax
           size = lu ∙ l ∙ h .size;
         }
 
-        pub again-ended : (j : List ℕ) → length j ≡ 3 → {v : List ℕ} {c : Collector} {o : Ended} → HeldPost u v (e - d) s (nowhere g) j c → LastPost c o
-            → Regroups q at a b v o
-        unfolding stages carried through before
-        again-ended j k3 {v} {c} {o} f last ag gs ts us p _ ea oa eb ob =
-            let bs = numbered 1 (ts ++ us) in
-            let shown = f (map again ag) (map again gs) bs [] [] (pairs-of ag gs p) (allowed ts us oa ob) (bear ts us ea eb) (holds ts us ea eb) (planned-of j k3) in
-            let same = ap (λ t. stages [] (regrouped ag gs ∷ []) (going t)) (sym (numbered-trees 1 (ts ++ us)))
-            ∙ group-step [] (map again ag) (map again gs) (unmarked bs) (omega (arith, size-is (unmarked bs), ap (λ t. length (arrayTrees t)) (numbered-trees 1 (ts ++ us)), joined-short ts us ea eb)) in
-            subst (λ st. EndedIs v o st (carried [] (regrouped ag gs ∷ []) bs)) (sym same) (last v _ _ shown)
+        module _ (j : List ℕ) (k3 : length j ≡ 3) {v : List ℕ} {c : Grouped} (f : HeldPost u v (e - d) s (nowhere g) j c) where
+          came : (ag gs : List Pair) (ts us : List Tree) → Pairs q at ag gs → a ≡ arrayBytes ts → Within ts → b ≡ arrayBytes us → Within us
+              → GroupedIs v (totalsFit (map again ag) (grouped (map again gs) (unmarked (numbered 1 (ts ++ us)))))
+              (through [] [] (map again ag) (map again gs) (grouped (map again gs) (unmarked (numbered 1 (ts ++ us)))))
+              (carried [] (before []) (carry [] (regrouped ag gs) (numbered 1 (ts ++ us)))) c
+          came ag gs ts us p ea oa eb ob =
+              f (map again ag) (map again gs) (numbered 1 (ts ++ us)) [] [] (pairs-of ag gs p) (allowed ts us oa ob) (bear ts us ea eb) (holds ts us ea eb) (planned-of j k3)
+
+          -- the trees that enter the group, with their positions and without
+          same-trees : (ag gs : List Pair) (ts us : List Tree)
+              → stages [] (regrouped ag gs ∷ []) (going (ts ++ us)) ≡ stages [] (regrouped ag gs ∷ []) (going (unmarked (numbered 1 (ts ++ us))))
+          same-trees ag gs ts us = ap (λ t. stages [] (regrouped ag gs ∷ []) (going t)) (sym (numbered-trees 1 (ts ++ us)))
+
+          short-trees : (ts us : List Tree) → a ≡ arrayBytes ts → b ≡ arrayBytes us → arraySize (unmarked (numbered 1 (ts ++ us))) ≤ arrayMax
+          short-trees ts us ea eb =
+              omega (arith, size-is (unmarked (numbered 1 (ts ++ us))), ap (λ t. length (arrayTrees t)) (numbered-trees 1 (ts ++ us)), joined-short ts us ea eb)
+
+          pub again-overflow : c ≡ Grouped.Overflow → Regroups q at a b v Ended.Overflow
+          unfolding stages
+          again-overflow z ag gs ts us p _ ea oa eb ob =
+              ends-overflow v _ (same-trees ag gs ts us
+              ∙ group-overflow [] (map again ag) (map again gs) (unmarked (numbered 1 (ts ++ us))) (short-trees ts us ea eb) (came ag gs ts us p ea oa eb ob .overflow z))
+
+          pub again-ended : {l : Collector} → c ≡ Grouped.Collected l → {o : Ended} → LastPost l o → Regroups q at a b v o
+          unfolding stages carried through before
+          again-ended {l} z {o} last ag gs ts us p _ ea oa eb ob =
+              let bs = numbered 1 (ts ++ us) in
+              let k = came ag gs ts us p ea oa eb ob .collected l z in
+              let same = same-trees ag gs ts us ∙ group-step [] (map again ag) (map again gs) (unmarked bs) (short-trees ts us ea eb) (k .0) in
+              subst (λ st. EndedIs v o st (carried [] (regrouped ag gs ∷ []) bs)) (sym same) (last v _ _ (k .1))
 
 -- ---- there is room for the pairs
 pub pairs-fit : {q : List ℕ} {at : GroupAt} {a b w : List ℕ} (s : List ℕ) → length s ≡ 192 → RegroupReady q at a b w → GroupRoom s q at
@@ -173,6 +198,6 @@ pairs-fit s e h = record {
   aggregates-is = h .pairs .aggregates-is;
   grouping = h .grouping;
   grouping-is = h .pairs .grouping-is;
-  room = omega (arith, group-short (h .aggregates) (h .grouping) (h .distinct), h .pairs .aggregates-ok .1, h .pairs .grouping-ok .1);
+  room = omega (arith, group-short (h .aggregates) (h .grouping) (regroups-parts (h .aggregates) (h .grouping) (h .again) .1), h .pairs .aggregates-ok .1, h .pairs .grouping-ok .1);
   small = omega arith;
 }

@@ -8,6 +8,7 @@ use positions::bear::number;
 use queries::stage::GroupAt;
 use stretch::next::StretchAt;
 use stretches::ended::Ended;
+use stretches::later::Grouped;
 use stretches::later::last;
 use stretches::later::next_stretch;
 use trays::again::write_again;
@@ -38,5 +39,9 @@ pub fn joined_group<'a>(
         group: again,
         next: Span { from: end, to: end },
     };
-    last(next_stretch(work, len, &pairs, at, b"\x01\x00\x00"))
+    let grouped = next_stretch(work, len, &pairs, at, b"\x01\x00\x00");
+    let Grouped::Collected(left) = grouped else {
+        return Ended::Overflow;
+    };
+    last(left)
 }

@@ -6,7 +6,7 @@ mod row;
 use crate::count::count;
 
 /// How long the text may be.
-const ROOM: usize = 196608;
+const ROOM: usize = 229376;
 
 /// Reports a text that may go on behind what was read of it.
 fn warn(length: usize) {

@@ -6,11 +6,11 @@ use Prim.Native.Nat.{ℕ}
 use lib.Dec.{eqb}
 use Rattle.spec_trees.specs.Options.{only}
 use Rattle.spec_trees.specs.Lists.{all}
-use Rattle.spec_queries.specs.Query.{Path, Pair, Stage, match, unwind, project, group, lookup}
+use Rattle.spec_queries.specs.Query.{Path, Pair, pairOf, Stage, match, unwind, project, group, lookup}
 
--- the target, a path of labels, is here applied as a route
+-- the target, a path of labels, is here applied as a route. No total is grouped again
 unfoldable pub again : Pair → Pair
-again p = record { source = p .target; target = p .target }
+again p = pairOf (p .target) (p .target)
 
 abbrev pub targets : List Pair → List Path
 targets ps = map (λ p. p .target) ps
@@ -31,6 +31,14 @@ distinctLabels ((k ∷ j ∷ p) ∷ ps) = false
 unfoldable pub distinctTargets : List Pair → List Pair → Bool
 distinctTargets ag gs = distinctLabels (targets (ag ++ gs))
 
+-- no aggregate is a total
+unfoldable pub noTotals : List Pair → Bool
+noTotals ag = all (λ p. not (p .isTotal)) ag
+
+-- a group whose tray results can be grouped again
+unfoldable pub regroups : List Pair → List Pair → Bool
+regroups ag gs = noTotals ag && distinctTargets ag gs
+
 -- the group over tray results joined
 abbrev pub regrouped : List Pair → List Pair → Stage
 regrouped ag gs = group (map again ag) (map again gs)
@@ -42,5 +50,5 @@ regrouping (match c ∷ ss) = none
 regrouping (unwind p ∷ ss) = none
 regrouping (project is ∷ ss) = none
 regrouping (lookup q r p ∷ ss) = none
-regrouping (group ag gs ∷ []) = only (distinctTargets ag gs) (some (regrouped ag gs))
+regrouping (group ag gs ∷ []) = only (regroups ag gs) (some (regrouped ag gs))
 regrouping (group ag gs ∷ s ∷ ss) = none

@@ -1,6 +1,6 @@
 -- The byte form of a query that the rules allow holds bytes only: so an area can hold it.
 use mathlib.Core.List.{List, [], _∷_, map}
-use mathlib.Core.Bool.{_&&_}
+use mathlib.Core.Bool.{Bool, true, false, _&&_}
 use Prim.Native.Nat.{ℕ, _≤_, _<_}
 use native.Mathlib.Omega.{arith}
 use lib.Dec.{T}
@@ -13,7 +13,7 @@ use Rattle.spec_trees.specs.OptionLaws.{T-and}
 use Rattle.spec_trees.specs.ListLaws.{All-map}
 use Rattle.spec_trees.specs.ByteLaws.{FieldInBytes, field-in, nested-in, big-in, label-in, array-in}
 use Rattle.spec_queries.specs.Query.{Path, Route, Criterion, always, exists, equal, same, negated, both, either, Data, literal, path, listed, test, choice, reduced, Datas, ended, more, Item, keep, place, Pair, Stage, match, unwind, project, group, lookup}
-use Rattle.spec_queries.specs.Bytes.{pathF, routeF, criterionF, divisorF, dataF, dataFs, itemF, pairF, pairsF, stageF, queryF, queryBytes}
+use Rattle.spec_queries.specs.Bytes.{pathF, routeF, criterionF, divisorF, dataF, dataFs, itemF, pairTag, pairF, pairsF, stageF, queryF, queryBytes}
 use Rattle.spec_queries.specs.Rules.{OkP, OkRoute, OkC, OkD, OkDs, OkI, OkPair, OkPairs, OkS, OkQ}
 use Rattle.spec_queries.specs.PathLaws.{path-labels}
 
@@ -65,9 +65,13 @@ unfolding itemF
 item-in (keep p) h = nested-in 47 (pathF p ∷ []) (omega arith) (path-in p h, tt)
 item-in (place d p) h = nested-in 48 (dataF d ∷ pathF p ∷ []) (omega arith) (data-in d (h .0 .0), (path-in p (h .1 .0), tt))
 
+tag-in : (b : Bool) → pairTag b < 256
+tag-in true = omega arith
+tag-in false = omega arith
+
 pair-in : (p : Pair) → OkPair p → FieldInBytes (pairF p)
 unfolding pairF
-pair-in p h = nested-in 49 (routeF (p .source) ∷ pathF (p .target) ∷ []) (omega arith) (route-in (p .source) (h .0), (path-in (p .target) (h .1 .0), tt))
+pair-in p h = nested-in (pairTag (p .isTotal)) (routeF (p .source) ∷ pathF (p .target) ∷ []) (tag-in (p .isTotal)) (route-in (p .source) (h .0), (path-in (p .target) (h .1 .0), tt))
 
 pairs-in : (t n : ℕ) (ps : List Pair) → t < 256 → OkPairs n ps → FieldInBytes (pairsF t ps)
 unfolding pairsF

@@ -1,5 +1,6 @@
 -- The byte form of queries.
 use mathlib.Core.List.{List, [], _∷_, map}
+use mathlib.Core.Bool.{Bool, cond}
 use Prim.Native.Nat.{ℕ}
 use Rattle.spec_trees.specs.Bytes.{Field, fieldBytes, bytes, big, arrayF}
 use Rattle.spec_queries.specs.Query.{Path, Route, Criterion, always, exists, equal, same, negated, both, either, Data, literal, path, listed, test, choice, reduced, Datas, ended, more, Item, keep, place, Pair, Stage, match, unwind, project, group, lookup}
@@ -39,8 +40,12 @@ unfoldable pub itemF : Item → Field
 itemF (keep p) = (47, bytes (pathF p ∷ []))
 itemF (place d p) = (48, bytes (dataF d ∷ pathF p ∷ []))
 
+-- tag 54 for a total, 49 for other pairs
+abbrev pub pairTag : Bool → ℕ
+pairTag b = cond b 54 49
+
 unfoldable pub pairF : Pair → Field
-pairF p = (49, bytes (routeF (p .source) ∷ pathF (p .target) ∷ []))
+pairF p = (pairTag (p .isTotal), bytes (routeF (p .source) ∷ pathF (p .target) ∷ []))
 
 -- tag 50 for aggregates, 51 for grouping
 unfoldable pub pairsF : ℕ → List Pair → Field

@@ -1,5 +1,5 @@
 -- Bytes read as queries. By tag, what may stand inside and how many: `criterionTable`, `dataTable`, `itemTable`,
--- `stageTable`.
+-- `aggregateTable`, `stageTable`.
 use mathlib.Core.List.{List, [], _∷_}
 use mathlib.Core.Option.{Option, none, some}
 use Prim.Native.Nat.{ℕ, zero, suc}
@@ -9,7 +9,7 @@ use Rattle.spec_trees.specs.Options.{only}
 use Rattle.spec_trees.specs.Limits.{queryMax, nestMax, stagesMax, itemsMax, membersMax, aggregatesMax, groupingMax}
 use Rattle.spec_trees.specs.Readers.{Reader, Table, inside, one, two, three, many, among, tagged, emptied, bigValue, Tested, tested}
 use Rattle.spec_trees.specs.Decode.{arrayR}
-use Rattle.spec_queries.specs.Query.{Path, Route, Criterion, always, exists, equal, same, negated, both, either, Data, literal, path, listed, test, choice, reduced, datas, Item, keep, place, Pair, Stage, match, unwind, project, group, lookup, isPath, isDivisor}
+use Rattle.spec_queries.specs.Query.{Path, Route, Criterion, always, exists, equal, same, negated, both, either, Data, literal, path, listed, test, choice, reduced, datas, Item, keep, place, Pair, pairOf, totalPair, Stage, match, unwind, project, group, lookup, isPath, isDivisor}
 
 -- ---- paths
 unfoldable pub pathR : Reader Path
@@ -68,14 +68,22 @@ itemTable =
 unfoldable pub itemR : Reader Item
 itemR = among itemTable
 
-abbrev pub pairOf : Route → Path → Pair
-pairOf p q = record { source = p; target = q }
-
 unfoldable pub pairR : Reader Pair
 pairR = tagged 49 (inside (two pairOf routeR pathR⁺))
 
-unfoldable pub pairsR : ℕ → ℕ → Reader (List Pair)
-pairsR k n = tagged k (inside (many (λ ps. ps) 0 n pairR))
+-- an aggregate may be a total
+abbrev pub aggregateTable : Table Pair
+aggregateTable =
+    (49, inside (two pairOf routeR pathR⁺))
+    ∷ (54, inside (two totalPair routeR pathR⁺))
+    ∷ []
+
+unfoldable pub aggregateR : Reader Pair
+aggregateR = among aggregateTable
+
+-- 0 to n pairs, each read by r, under the tag k
+unfoldable pub pairsR : Reader Pair → ℕ → ℕ → Reader (List Pair)
+pairsR r k n = tagged k (inside (many (λ ps. ps) 0 n r))
 
 -- ---- stages and queries
 abbrev pub stageTable : Table Stage
@@ -83,7 +91,7 @@ stageTable =
     (17, inside (one match (criterionR nestMax)))
     ∷ (18, inside (one unwind pathR))
     ∷ (19, inside (many project 1 itemsMax itemR))
-    ∷ (20, inside (two group (pairsR 50 aggregatesMax) (pairsR 51 groupingMax)))
+    ∷ (20, inside (two group (pairsR aggregateR 50 aggregatesMax) (pairsR pairR 51 groupingMax)))
     ∷ (21, inside (three lookup routeR routeR pathR⁺))
     ∷ []
 

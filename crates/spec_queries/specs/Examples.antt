@@ -8,14 +8,14 @@ use Prim.Native.Nat.{ℕ, zero, suc}
 use lib.ListN.{replicate}
 use Rattle.spec_trees.specs.Options.{some?}
 use Rattle.spec_trees.specs.Examples.{#, decoded}
-use Rattle.spec_queries.specs.Query.{Path, Criterion, always, exists, equal, same, negated, both, either, Data, literal, path, listed, test, choice, reduced, ended, more, datas, keep, place, Stage, match, unwind, project, group, lookup, isPath, isDivisor}
+use Rattle.spec_queries.specs.Query.{Path, Criterion, always, exists, equal, same, negated, both, either, Data, literal, path, listed, test, choice, reduced, ended, more, datas, keep, place, pairOf, totalPair, Stage, match, unwind, project, group, lookup, isPath, isDivisor}
 use Rattle.spec_queries.specs.Bytes.{pathF, criterionF, divisorF, dataF, itemF, pairF, pairsF, stageF, queryF, queryBytes}
-use Rattle.spec_queries.specs.Decode.{pathR, pathR⁺, criterionR, divisorR, dataR, itemR, pairOf, pairR, pairsR, stageR, queryR, decodeQuery, readQuery}
-use Rattle.spec_queries.specs.Again.{again, leads, distinctLabels, distinctTargets, regrouping}
+use Rattle.spec_queries.specs.Decode.{pathR, pathR⁺, criterionR, divisorR, dataR, itemR, pairR, aggregateR, pairsR, stageR, queryR, decodeQuery, readQuery}
+use Rattle.spec_queries.specs.Again.{again, leads, distinctLabels, distinctTargets, noTotals, regroups, regrouping}
 
 -- under this name all definitions of the crate and of those below compute
 unfoldable abbrev pub admitted : List ℕ → Option (List Stage)
-unfolding decoded pathF criterionF divisorF dataF itemF pairF pairsF stageF queryF queryBytes isPath pathR pathR⁺ criterionR isDivisor divisorR dataR itemR pairR pairsR stageR queryR decodeQuery readQuery again leads distinctLabels distinctTargets regrouping
+unfolding decoded pathF criterionF divisorF dataF itemF pairF pairsF stageF queryF queryBytes isPath pathR pathR⁺ criterionR isDivisor divisorR dataR itemR pairR aggregateR pairsR stageR queryR decodeQuery readQuery again leads distinctLabels distinctTargets noTotals regroups regrouping
 admitted b = decodeQuery b
 
 abbrev nots : ℕ → Criterion
@@ -61,6 +61,12 @@ queries =
     ∷ (grouping 8 4, true)
     ∷ (grouping 9 4, false)
     ∷ (grouping 8 5, false)
+    -- a total counts to the aggregates, and does not stand among the grouping
+    ∷ (group (replicate 4 (totalPair [] (1 ∷ []))) [] ∷ [], true)
+    ∷ (group (totalPair [] (1 ∷ []) ∷ replicate 7 (pairOf [] (1 ∷ []))) [] ∷ [], true)
+    ∷ (group (totalPair [] (1 ∷ []) ∷ replicate 8 (pairOf [] (1 ∷ []))) [] ∷ [], false)
+    ∷ (group [] (totalPair [] (1 ∷ []) ∷ []) ∷ [], false)
+    ∷ (group (totalPair (1 ∷ []) [] ∷ []) [] ∷ [], false)
     -- destinations are not empty
     ∷ (project (place (path []) [] ∷ []) ∷ [], false)
     ∷ (group (pairOf (1 ∷ []) [] ∷ []) [] ∷ [], false)
@@ -107,6 +113,8 @@ regroupings =
       some (group (pairOf (5 ∷ []) (5 ∷ []) ∷ []) (pairOf (4 ∷ []) (4 ∷ []) ∷ [])),
     )
     ∷ (group (pairOf (2 ∷ []) (4 ∷ []) ∷ []) (pairOf (1 ∷ []) (4 ∷ []) ∷ []) ∷ [], none)
+    -- no total is grouped again
+    ∷ (group (totalPair (2 ∷ []) (5 ∷ []) ∷ []) (pairOf (1 ∷ []) (4 ∷ []) ∷ []) ∷ [], none)
     ∷ (group [] [] ∷ group [] [] ∷ [], none)
     ∷ (match always ∷ [], none)
     ∷ []

@@ -1,6 +1,6 @@
 -- Queries: paths, criteria, data, items, pairs and stages.
 use mathlib.Core.List.{List, [], _∷_}
-use mathlib.Core.Bool.{Bool, _&&_}
+use mathlib.Core.Bool.{Bool, true, false, _&&_}
 use Prim.Native.Nat.{ℕ}
 use lib.ListN.{length}
 use lib.Dec.{leb}
@@ -63,10 +63,22 @@ pub data Item : Type 0 where
   keep : Path → Item
   place : Data → Path → Item
 
--- a pair of a group: where its values come from, and where they are placed (document 01's destination path)
+-- a pair of a group: where its values come from, and where they are placed (document 01's destination path). What is
+-- placed is the values; or, if the pair is a total, which only an aggregate may be, their sum
 pub record Pair : Type 0 where
   pub source : Route
   pub target : Path
+  pub isTotal : Bool
+
+abbrev pub pairWith : Bool → Route → Path → Pair
+pairWith b p q = record { source = p; target = q; isTotal = b }
+
+-- of values, and of their sum
+abbrev pub pairOf : Route → Path → Pair
+pairOf p q = pairWith false p q
+
+abbrev pub totalPair : Route → Path → Pair
+totalPair p q = pairWith true p q
 
 pub data Stage : Type 0 where
   match : Criterion → Stage

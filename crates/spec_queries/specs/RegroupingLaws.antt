@@ -12,7 +12,7 @@ use Rattle.spec_trees.specs.OptionLaws.{both-true}
 use Rattle.spec_trees.specs.FieldLaws.{bytes-append, length-bytes}
 use Rattle.spec_queries.specs.Query.{Path, Pair}
 use Rattle.spec_queries.specs.Bytes.{pathF, pairF, pairsF, stageF, queryF, queryBytes}
-use Rattle.spec_queries.specs.Rules.{OkPair, OkPairs, OkQ}
+use Rattle.spec_queries.specs.Rules.{OkPair, OkPairs, Plain, OkQ}
 use Rattle.spec_queries.specs.Again.{again, targets, leads, distinctLabels, distinctTargets, regrouped}
 
 -- ---- the rules allow it
@@ -23,6 +23,11 @@ pairs-again (p ∷ ps) o = ((o .0 .1 .0, o .0 .1), pairs-again ps (o .1))
 
 pub ok-again : (n : ℕ) (ps : List Pair) → OkPairs n ps → OkPairs n (map again ps)
 ok-again n ps o = (pairs-again ps (o .0), omega (arith, o .1, length-map ps again))
+
+pub plain-again : (ps : List Pair) → All Plain (map again ps)
+unfolding again
+plain-again [] = tt
+plain-again (p ∷ ps) = (refl, plain-again ps)
 
 -- ---- its size
 -- the most bytes that a pair takes whose two paths are single labels
@@ -71,7 +76,7 @@ length-regrouping ag gs =
 
 pub regrouping-ok : (ag gs : List Pair) → distinctTargets ag gs ≡ true → OkPairs aggregatesMax ag → OkPairs groupingMax gs → OkQ (regrouped ag gs ∷ [])
 regrouping-ok ag gs h oa og = record {
-  stages = ((ok-again aggregatesMax ag oa, ok-again groupingMax gs og), tt);
+  stages = ((ok-again aggregatesMax ag oa, ok-again groupingMax gs og, plain-again gs), tt);
   count = omega arith;
   size = omega (arith, length-regrouping ag gs, group-short ag gs h, oa .1, og .1);
 }

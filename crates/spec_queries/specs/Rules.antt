@@ -1,5 +1,7 @@
 -- The queries that the rules allow: nesting, counts, paths that must not be empty, divisors.
+use mathlib.Core.Path.{_≡_}
 use mathlib.Core.List.{List}
+use mathlib.Core.Bool.{false}
 use Prim.Native.Nat.{ℕ, suc, _≤_, max}
 use lib.ListN.{length}
 use lib.Dec.{T}
@@ -84,11 +86,15 @@ OkPair p = OkRoute (p .source) × OkP⁺ (p .target)
 abbrev pub OkPairs : ℕ → List Pair → Type 0
 OkPairs n ps = All OkPair ps × (length ps ≤ n)
 
+-- no total
+abbrev pub Plain : Pair → Type 0
+Plain p = p .isTotal ≡ false
+
 abbrev pub OkS : Stage → Type 0
 OkS (match c) = NestedC nestMax c
 OkS (unwind p) = OkP p
 OkS (project is) = All OkI is × (1 ≤ length is) × (length is ≤ itemsMax)
-OkS (group ag gs) = OkPairs aggregatesMax ag × OkPairs groupingMax gs
+OkS (group ag gs) = OkPairs aggregatesMax ag × OkPairs groupingMax gs × All Plain gs
 OkS (lookup q r p) = OkRoute q × OkRoute r × OkP⁺ p
 
 -- a query that these rules allow

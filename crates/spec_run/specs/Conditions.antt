@@ -3,15 +3,17 @@
 -- crate `certificate`.
 use mathlib.Core.Path.{_≡_, refl, ap, _∙_}
 use mathlib.Core.List.{List, [], _∷_}
-use mathlib.Core.Bool.{true}
-use mathlib.Core.Option.{some}
+use mathlib.Core.Bool.{Bool, true, false, cond}
+use mathlib.Core.Option.{none, some}
 use Prim.Native.Nat.{ℕ, _≤_}
 use lib.ListN.{length}
-use Rattle.spec_trees.specs.Limits.{depthMax, workMin, positionsMin}
+use Rattle.spec_trees.specs.Limits.{depthMax, arrayMax, workMin, positionsMin}
+use Rattle.spec_trees.specs.Options.{maybe}
+use Rattle.spec_trees.specs.OptionLaws.{leb-yes}
 use Rattle.spec_trees.specs.Lists.{filter, all, gather, each}
 use Rattle.spec_trees.specs.ListLaws.{All-filter, All-gather}
 use Rattle.spec_trees.specs.Tree.{Tree}
-use Rattle.spec_trees.specs.Size.{fits}
+use Rattle.spec_trees.specs.Size.{arraySize, fits}
 use Rattle.spec_trees.specs.Bytes.{arrayBytes}
 use Rattle.spec_trees.specs.Within.{Allowed, AllowedA, Within}
 use Rattle.spec_trees.specs.ArrayLaws.{array-back, read-array}
@@ -23,12 +25,12 @@ use Rattle.spec_stages.specs.Criteria.{holds}
 use Rattle.spec_stages.specs.Unwind.{unwound}
 use Rattle.spec_stages.specs.Project.{projected}
 use Rattle.spec_stages.specs.Lookup.{looked}
-use Rattle.spec_stages.specs.Group.{grouped, classTree}
-use Rattle.spec_stages.specs.Stages.{State, going, isGroup, performed, leaving, after, step, stages}
+use Rattle.spec_stages.specs.Group.{grouped, classTree, totalsFit}
+use Rattle.spec_stages.specs.Stages.{tooLong, overflow, State, going, halted, entering, performed, leaving, after, step, stages}
 use Rattle.spec_stages.specs.Positions.{resultPositions}
 use Rattle.spec_stages.specs.UnwoundLaws.{unwound-allowed}
 use Rattle.spec_stages.specs.StageLaws.{fits-of}
-use Rattle.spec_stages.specs.LeaveLaws.{projected-leave, looked-leave, group-step}
+use Rattle.spec_stages.specs.LeaveLaws.{projected-leave, looked-leave, classes-leave}
 use Rattle.spec_run.specs.Run.{Call, call, final, Outcome, outcomeOf, positionsAfter, plainRun, plainPositions}
 use Rattle.spec_run.specs.RunLaws.{reads-verdict}
 
@@ -41,19 +43,25 @@ leave : (ts : List Tree) → AllowedA ts → leaving (some ts) ≡ some ts
 unfolding leaving
 leave ts h = rw (all-fit ts h) refl
 
+halts-or : (b : Bool) (x : State) → maybe x halted (cond b none (some overflow)) ≡ cond b x (halted overflow)
+unfolding maybe
+halts-or true x = refl
+halts-or false x = refl
+
 -- ---- condition 2: a stage over an array within the limits, with a joined array within the limits, comes to what
 -- document 01's
--- definition of the stage gives, or to 8 where a tree tested in it is too large: no test is left to be named
+-- definition of the stage gives, or to 8 where a tree tested in it is too large, or to 12 where a total does not fit: no
+-- test is left to be named
 pub stage-alone : (us ts : List Tree) → Within ts → (s : Stage) → OkQ (s ∷ [])
-    → step us s (going ts) ≡ after (performed us s ts)
-unfolding step isGroup performed
+    → step us s (going ts) ≡ maybe (after (performed us s ts)) halted (entering s ts)
+unfolding step entering maybe performed
 stage-alone us ts w (match c) o =
     ap after (leave (filter (holds c) ts) (All-filter (Allowed depthMax) (holds c) ts (w .allowed)))
 stage-alone us ts w (unwind p) o =
     let fit : (t : Tree) → Allowed depthMax t → AllowedA (unwound p t) = λ t h. unwound-allowed p t (o .stages .0) h in
     ap after (leave (gather (unwound p) ts) (All-gather (Allowed depthMax) (Allowed depthMax) (unwound p) fit ts (w .allowed)))
 stage-alone us ts w (project is) o = ap after (projected-leave is ts)
-stage-alone us ts w (group ag gs) o = group-step us ag gs ts (w .small)
+stage-alone us ts w (group ag gs) o = ap (λ x. maybe (after x) halted (entering (group ag gs) ts)) (classes-leave ag gs (grouped gs ts))
 stage-alone us ts w (lookup q r p) o = ap after (looked-leave q r p us ts (w .allowed))
 
 -- an input and a joined array within the limits, a work and a position area that are long enough, any result area
@@ -88,7 +96,7 @@ module _ (ts us : List Tree) (wt : Within ts) (wu : Within us)
       })
 
   -- the query of one stage
-  pub run-alone : (s : Stage) → OkQ (s ∷ []) → ran (s ∷ []) ≡ comes (s ∷ []) (after (performed us s ts))
+  pub run-alone : (s : Stage) → OkQ (s ∷ []) → ran (s ∷ []) ≡ comes (s ∷ []) (maybe (after (performed us s ts)) halted (entering s ts))
   unfolding stages
   run-alone s o = run-stages (s ∷ []) o ∙ ap (comes (s ∷ [])) (stage-alone us ts wt s o)
 
@@ -96,29 +104,33 @@ module _ (ts us : List Tree) (wt : Within ts) (wu : Within us)
   -- the trees that meet the criterion, in order
   pub match-alone : (c : Criterion) → OkQ (match c ∷ [])
       → ran (match c ∷ []) ≡ comes (match c ∷ []) (going (filter (holds c) ts))
-  unfolding performed after
+  unfolding performed entering maybe after
   match-alone c o = run-alone (match c) o
 
   -- the outcomes of each tree, in order
   pub unwind-alone : (p : Path) → OkQ (unwind p ∷ [])
       → ran (unwind p ∷ []) ≡ comes (unwind p ∷ []) (going (gather (unwound p) ts))
-  unfolding performed after
+  unfolding performed entering maybe after
   unwind-alone p o = run-alone (unwind p) o
 
   -- what the items make of each tree; 8, if one is too large
   pub project-alone : (is : List Item) → OkQ (project is ∷ [])
       → ran (project is ∷ []) ≡ comes (project is ∷ []) (after (each (projected is) ts))
-  unfolding performed
+  unfolding performed entering maybe
   project-alone is o = run-alone (project is) o
 
-  -- the tree of each class; 8, if one is too large
+  -- the tree of each class; 12, if a total of one does not fit; else 8, if one is too large
   pub group-alone : (ag gs : List Pair) → OkQ (group ag gs ∷ [])
-      → ran (group ag gs ∷ []) ≡ comes (group ag gs ∷ []) (after (each (classTree ag gs) (grouped gs ts)))
-  unfolding performed
-  group-alone ag gs o = run-alone (group ag gs) o
+      → ran (group ag gs ∷ []) ≡ comes (group ag gs ∷ []) (cond (totalsFit ag (grouped gs ts)) (after (each (classTree ag gs) (grouped gs ts))) (halted overflow))
+  unfolding performed entering
+  group-alone ag gs o =
+      run-alone (group ag gs) o
+      ∙ ap (λ b. comes (group ag gs ∷ []) (maybe (after (each (classTree ag gs) (grouped gs ts))) halted (cond b (cond (totalsFit ag (grouped gs ts)) none (some overflow)) (some tooLong))))
+      (leb-yes (arraySize ts) arrayMax (wt .small))
+      ∙ ap (comes (group ag gs ∷ [])) (halts-or (totalsFit ag (grouped gs ts)) (after (each (classTree ag gs) (grouped gs ts))))
 
   -- each tree with its place of the joined trees that match; 8, if one is too large
   pub lookup-alone : (q r p : Path) → OkQ (lookup q r p ∷ [])
       → ran (lookup q r p ∷ []) ≡ comes (lookup q r p ∷ []) (after (each (looked q r p us) ts))
-  unfolding performed
+  unfolding performed entering maybe
   lookup-alone q r p o = run-alone (lookup q r p) o

@@ -16,7 +16,7 @@ use Rattle.spec_trees.specs.Options.{only}
 use Rattle.spec_trees.specs.OptionLaws.{some-equal}
 use Rattle.spec_trees.specs.ArrayLaws.{array-back, read-array}
 use Rattle.spec_queries.specs.Query.{Pair, Stage, group}
-use Rattle.spec_queries.specs.Again.{distinctTargets, regrouped, regrouping}
+use Rattle.spec_queries.specs.Again.{regroups, regrouped, regrouping}
 use Rattle.spec_queries.specs.QueryLaws.{read-query}
 use Rattle.spec_stages.specs.Stages.{going, stages}
 use Rattle.spec_stages.specs.Join.{GroupFree}
@@ -51,7 +51,7 @@ module _ {q j : List ℕ} {ss : List Stage} {us : List Tree} (iq : IsQuery q ss)
       let e = read-back (take n left) gs fs l (accepted-within c ls is ws gs (iq .bytes) (ii .bytes) (ij .bytes) g) r in
       rw (a, b, d, e) at g
 
-  ran-tray : (k : Tray) → RanTray q j k → TrayRun us ss k
+  pub ran-tray : (k : Tray) → RanTray q j k → TrayRun us ss k
   ran-tray k h = answered-gives (k .result) (h .answered) (h .input-is) (h .result-is) .ran
 
   ran-trays : (ks : List Tray) → All (RanTray q j) ks → All (TrayRun us ss) ks
@@ -62,11 +62,11 @@ module _ {q j : List ℕ} {ss : List Stage} {us : List Tree} (iq : IsQuery q ss)
   answers-join f ks h = trays-join us ss f ks (ran-trays ks h)
 
 -- ---- one regrouping call
-such : (ag gs : List Pair) → distinctTargets ag gs ≡ true → regrouping (group ag gs ∷ []) ≡ some (regrouped ag gs)
+such : (ag gs : List Pair) → regroups ag gs ≡ true → regrouping (group ag gs ∷ []) ≡ some (regrouped ag gs)
 unfolding regrouping only
 such ag gs d = rw d refl
 
-module _ {g : List ℕ} {ag gs : List Pair} (ig : IsQuery g (group ag gs ∷ [])) (d : distinctTargets ag gs ≡ true) where
+module _ {g : List ℕ} {ag gs : List Pair} (ig : IsQuery g (group ag gs ∷ [])) (d : regroups ag gs ≡ true) where
   regrouped-two : (ps qs rs : List Tree) → RegroupedTwo g ps qs rs → TrayRun [] (regrouped ag gs ∷ []) (trayOf (ps ++ qs) rs)
   regrouped-two ps qs rs h =
       let c = regroupCall g (h .first) (h .second) (h .work) (h .area) in
@@ -80,9 +80,9 @@ module _ {g : List ℕ} {ag gs : List Pair} (ig : IsQuery g (group ag gs ∷ [])
       let e = read-back (take (h .length) (h .left)) fs rs l (regroup-within c ls s ts us (ig .bytes) (h .first-is .bytes) (h .second-is .bytes) (k .reads) fs k) (h .result-is) in
       sym (ap (λ x. stages [] (x ∷ []) (going (ps ++ qs))) z) ∙ sym (ap₂ (λ x y. stages [] (s ∷ []) (going (x ++ y))) p q) ∙ k .ran ∙ ap going e
 
--- ---- the query ends in its only group, whose destinations are single, distinct labels
+-- ---- the query ends in its only group, which has no total and whose destinations are single, distinct labels
 module _ {q j : List ℕ} (ss : List Stage) {us : List Tree} (ag gs : List Pair) (iq : IsQuery q (ss ++ (group ag gs ∷ []))) (ij : IsArray j us)
-    (f : GroupFree ss) (d : distinctTargets ag gs ≡ true) where
+    (f : GroupFree ss) (d : regroups ag gs ≡ true) where
   -- all tray results at once, by a run of the regrouping over their join
   pub answers-regroup : {r w : List ℕ} {ws : List Tree} → IsQuery r (regrouped ag gs ∷ []) → IsArray w ws
       → (ks : List Tray) → All (RanTray q j) ks → (rs : List Tree) → RanTray r w (trayOf (results ks) rs) → Grouped us ss ag gs (trayOf (inputs ks) rs)

@@ -4,15 +4,15 @@ use mathlib.Core.Path.{_≡_, refl}
 use mathlib.Core.List.{List, [], _∷_, _++_}
 use Prim.Native.Nat.{ℕ}
 use lib.ListN.{length, replicate}
+use lib.IntN.{pos}
 use Rattle.spec_trees.specs.Tree.{Tree, node, text, bare, bareVoid}
 use Rattle.spec_trees.specs.Bytes.{arrayBytes}
-use Rattle.spec_trees.specs.Examples.{#, ⟨_⟩, _⇒_⨾_}
-use Rattle.spec_queries.specs.Query.{always, negated, match, unwind, group, lookup}
+use Rattle.spec_trees.specs.Examples.{int, #, ⟨_⟩, _⇒_⨾_}
+use Rattle.spec_queries.specs.Query.{always, negated, pairOf, totalPair, match, unwind, group, lookup}
 use Rattle.spec_queries.specs.Bytes.{queryBytes}
-use Rattle.spec_queries.specs.Decode.{pairOf}
 use Rattle.spec_stages.specs.PositionExamples.{stems}
 use Rattle.spec_run.specs.Refusal.{keepsResult, keepsWork}
-use Rattle.spec_run.specs.Run.{reading, final, verdictOf, verdict, zeros, workAfter, resultAfter, positionsAfter, numberIn, lengthIn, outcomeOf, plainRun, checkNumber, checkedQuery, checkedArray}
+use Rattle.spec_run.specs.Run.{reading, refusalAt, final, verdictOf, verdict, zeros, workAfter, resultAfter, positionsAfter, numberIn, lengthIn, outcomeOf, plainRun, checkNumber, checkedQuery, checkedArray}
 use Rattle.spec_run.specs.Regroup.{asking, regroupVerdictOf}
 use Rattle.spec_run.specs.Program.{headed, digit, hex, decimal, refusedText, shown, answered, program}
 
@@ -30,7 +30,7 @@ lent q i j n r = record { query = q; input = i; joined = j; work = n; result = r
 -- What the plain run tells of it and of a position area: number, length, result area, position area. Under this name all
 -- definitions of this crate and of those below compute.
 unfoldable abbrev pub told : Lent → List ℕ → ℕ × ℕ × List ℕ × List ℕ
-unfolding stems keepsResult keepsWork reading final verdictOf verdict zeros workAfter resultAfter positionsAfter numberIn lengthIn outcomeOf plainRun checkNumber checkedQuery checkedArray headed digit hex decimal refusedText shown answered program
+unfolding stems keepsResult keepsWork reading refusalAt final verdictOf verdict zeros workAfter resultAfter positionsAfter numberIn lengthIn outcomeOf plainRun checkNumber checkedQuery checkedArray headed digit hex decimal refusedText shown answered program
 told c p =
     let x = verdictOf (c .query) (c .input) (c .joined) (c .work) (length p) (length (c .result)) in
     (numberIn x, lengthIn x, resultAfter (c .result) x, positionsAfter p x)
@@ -94,9 +94,20 @@ jobs = arrayBytes (⟨ 1 ⇒ [] ⨾ bare ⟩ ∷ bareVoid ∷ ⟨ 1 ⇒ [] ⨾ b
 abbrev byJob : List ℕ
 byJob = queryBytes (group [] (pairOf (1 ∷ []) (1 ∷ []) ∷ []) ∷ [])
 
+-- a total of 2 does not fit, and unwound by 3 the tree gives an array of over 16,384 bytes
+abbrev huge : List Tree
+huge = ⟨ 2 ⇒ int (pos 9223372036854775807) ∷ # 1 ∷ [] ⨾ 3 ⇒ replicate 40 bareVoid ⨾ 4 ⇒ replicate 60 bareVoid ⨾ bare ⟩ ∷ []
+
+-- a group with that total, and behind it a lookup that makes its tree too large
+abbrev summed : List ℕ
+summed = queryBytes (group (totalPair (2 ∷ []) (2 ∷ []) ∷ []) [] ∷ lookup (9 ∷ []) (9 ∷ []) (3 ∷ []) ∷ [])
+
+abbrev unwoundSummed : List ℕ
+unwoundSummed = queryBytes (unwind (3 ∷ []) ∷ group (totalPair (2 ∷ []) (2 ∷ []) ∷ []) [] ∷ lookup (9 ∷ []) (9 ∷ []) (3 ∷ []) ∷ [])
+
 abbrev rows : List Row
 rows =
-    -- the eleven refusals, in order, 11 behind 1; each call has the faults of the later ones too, where it can
+    -- the twelve refusals, in order, 11 behind 1; each call has the faults of the later ones too, where it can
     (lent over over over 65535 nines, few, (1, 0, nines, few))
     ∷ (lent (replicate 4097 0) over over 65536 nines, few, (11, 0, nines, few))
     ∷ (lent (replicate 4097 0) over over 65536 nines, enough, (2, 0, nines, enough))
@@ -105,7 +116,10 @@ rows =
     ∷ (lent no-stage (1 ∷ 0 ∷ 0 ∷ 0 ∷ []) over 65536 nines, enough, (5, 0, nines, enough))
     ∷ (lent no-stage no-tree over 65536 nines, enough, (6, 0, nines, enough))
     ∷ (lent no-stage no-tree [] 65536 nines, enough, (7, 0, nines, enough))
-    -- these clear the areas to their ends
+    -- these clear the areas to their ends. 12 at a group: before 8 in the stretch that it opens, and before 10; 9 of the
+    -- array that enters it goes before it
+    ∷ (lent unwoundSummed (arrayBytes huge) (arrayBytes twice) 65536 nines, more, (9, 0, noughts, cleared))
+    ∷ (lent summed (arrayBytes huge) (arrayBytes twice) 65536 nines, more, (12, 0, noughts, cleared))
     ∷ (lent (queryBytes (lookup [] [] (3 ∷ []) ∷ [])) (arrayBytes (hundreds ∷ [])) (arrayBytes (hundreds ∷ [])) 65536 nines, more, (8, 0, noughts, cleared))
     ∷ (lent (queryBytes (unwind (1 ∷ []) ∷ unwind (2 ∷ []) ∷ group [] [] ∷ [])) (arrayBytes (hundreds ∷ [])) no-tree 65536 nines, more, (9, 0, noughts, cleared))
     ∷ (lent no-stage (arrayBytes (bareVoid ∷ [])) no-tree 65536 nines, more, (10, 0, noughts, cleared))
@@ -145,7 +159,7 @@ rows =
 pub rows-hold : AllHold rows
 unfolding told
 rows-hold =
-    (refl, (refl, (refl, (refl, (refl, (refl, (refl, (refl, (refl, (refl, (refl, (refl, (refl, (refl, (refl, (refl, (refl, (refl, (refl, (refl, tt))))))))))))))))))))
+    (refl, (refl, (refl, (refl, (refl, (refl, (refl, (refl, (refl, (refl, (refl, (refl, (refl, (refl, (refl, (refl, (refl, (refl, (refl, (refl, (refl, (refl, tt))))))))))))))))))))))
 
 -- ---- the regrouping call: the same of it, the first array in the input's place and the second in the joined array's
 unfoldable abbrev pub regroupTold : Lent → ℕ × ℕ × List ℕ
@@ -188,6 +202,8 @@ regroupRows =
     ∷ (lent (queryBytes (group [] [] ∷ match always ∷ [])) over over 65536 nines, (3, 0, nines))
     ∷ (lent (tally (5 ∷ 6 ∷ []) (4 ∷ [])) over over 65536 nines, (3, 0, nines))
     ∷ (lent (tally (4 ∷ []) (4 ∷ [])) over over 65536 nines, (3, 0, nines))
+    -- a total
+    ∷ (lent (queryBytes (group (totalPair (2 ∷ []) (5 ∷ []) ∷ []) (pairOf (1 ∷ []) (4 ∷ []) ∷ []) ∷ [])) over over 65536 nines, (3, 0, nines))
     -- the first array before the second
     ∷ (lent lenses over over 65536 nines, (4, 0, nines))
     ∷ (lent lenses (1 ∷ 0 ∷ 0 ∷ 0 ∷ []) over 65536 nines, (5, 0, nines))
@@ -211,7 +227,7 @@ regroupRows =
 
 pub regroup-rows-hold : AllRegroup regroupRows
 unfolding regroupTold
-regroup-rows-hold = (refl, (refl, (refl, (refl, (refl, (refl, (refl, (refl, (refl, (refl, (refl, (refl, (refl, (refl, (refl, (refl, (refl, tt)))))))))))))))))
+regroup-rows-hold = (refl, (refl, (refl, (refl, (refl, (refl, (refl, (refl, (refl, (refl, (refl, (refl, (refl, (refl, (refl, (refl, (refl, (refl, tt))))))))))))))))))
 
 -- ---- at the limits: the input's number
 abbrev texts : ℕ → Tree

@@ -14,5 +14,6 @@ pub mod CutLaws
 pub mod RegroupLaws
 pub mod DayLaws
 pub mod LinesLaws
+pub mod TotalLaws
 pub mod Conditions
 pub mod Examples

@@ -1,10 +1,10 @@
 -- The documents' table of refusals: its causes, in the order in which they are tested, their numbers, and what each
--- leaves in the areas. The position area is left as the result area is: unchanged by 1 to 7 and 11, zero after 8 to 10.
+-- leaves in the areas. The position area is left as the result area is: unchanged by 1 to 7 and 11, zero after 8 to 10 and 12.
 -- Read areas never change.
 use mathlib.Core.Bool.{Bool, true, false}
 use Prim.Native.Nat.{ℕ}
 use Rattle.spec_run.specs.declared.answer.Refusal.{Refusal}
-use Rattle.spec_run.specs.declared.answer.Refusal.the-variants.{WorkShort, PositionsShort, QueryLong, QueryMalformed, InputLong, InputMalformed, JoinedLong, JoinedMalformed, TreeLarge, GroupLong, ResultLong}
+use Rattle.spec_run.specs.declared.answer.Refusal.the-variants.{WorkShort, PositionsShort, QueryLong, QueryMalformed, InputLong, InputMalformed, JoinedLong, JoinedMalformed, TotalLarge, TreeLarge, GroupLong, ResultLong}
 
 abbrev pub numberOf : Refusal → ℕ
 -- work area under 65,536 bytes
@@ -23,6 +23,8 @@ numberOf InputMalformed = 5
 numberOf JoinedLong = 6
 -- joined array malformed, likewise
 numberOf JoinedMalformed = 7
+-- some class's exact total doesn't fit a signed 64-bit integer, at the group that opens a stretch
+numberOf TotalLarge = 12
 -- tree too large in a stretch
 numberOf TreeLarge = 8
 -- array entering a group over 16,384 bytes
@@ -40,6 +42,7 @@ keepsResult InputLong = true
 keepsResult InputMalformed = true
 keepsResult JoinedLong = true
 keepsResult JoinedMalformed = true
+keepsResult TotalLarge = false
 keepsResult TreeLarge = false
 keepsResult GroupLong = false
 keepsResult ResultLong = false
@@ -54,6 +57,7 @@ keepsWork InputLong = false
 keepsWork InputMalformed = false
 keepsWork JoinedLong = false
 keepsWork JoinedMalformed = false
+keepsWork TotalLarge = false
 keepsWork TreeLarge = false
 keepsWork GroupLong = false
 keepsWork ResultLong = false

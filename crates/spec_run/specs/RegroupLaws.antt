@@ -23,16 +23,16 @@ use Rattle.spec_queries.specs.Bytes.{queryBytes}
 use Rattle.spec_queries.specs.Decode.{readQuery}
 use Rattle.spec_queries.specs.Rules.{OkS, OkQ}
 use Rattle.spec_queries.specs.Again.{regrouped, regrouping}
-use Rattle.spec_queries.specs.AgainLaws.{regrouping-group, regrouping-alone}
+use Rattle.spec_queries.specs.AgainLaws.{regrouping-group, regrouping-alone, regroups-parts}
 use Rattle.spec_queries.specs.RegroupingLaws.{regrouping-ok}
 use Rattle.spec_queries.specs.QueryLaws.{query-only, query-back, read-query}
-use Rattle.spec_stages.specs.Stages.{going, long, performed, step, stages}
+use Rattle.spec_stages.specs.Stages.{tooLong, going, halted, entering, performed, step, stages}
 use Rattle.spec_stages.specs.Positions.{resultPositions}
 use Rattle.spec_stages.specs.LeaveLaws.{group-long}
 use Rattle.spec_stages.specs.KeepLaws.{stages-allowed}
 use Rattle.spec_run.specs.declared.answer.Refusal.{Refusal}
 use Rattle.spec_run.specs.declared.answer.Refusal.the-variants.{WorkShort, QueryLong, QueryMalformed, InputLong, InputMalformed, GroupLong}
-use Rattle.spec_run.specs.Run.{call, Verdict, gives, refused, reading, final, outcomeOf, plainRun}
+use Rattle.spec_run.specs.Run.{call, Verdict, gives, refused, reading, refusalAt, final, outcomeOf, plainRun}
 use Rattle.spec_run.specs.Regroup.{RegroupCall, asking, regroupVerdictOf, regroupVerdict, plainRegroup}
 use Rattle.spec_run.specs.RunLaws.{reads-verdict, reading-out, cond-out, final-out, accepts-gives, outcome-same, Short, outcome-short, bytes-short}
 
@@ -121,12 +121,12 @@ such-group ss s o e =
       grouping = gs;
       whole = z;
       again-is = r .1;
-      allowed = subst (λ x. OkQ (x ∷ [])) (sym (r .1)) (regrouping-ok ag gs (r .0) (k .0) (k .1));
+      allowed = subst (λ x. OkQ (x ∷ [])) (sym (r .1)) (regrouping-ok ag gs (regroups-parts ag gs (r .0) .1) (k .0) (k .1));
     }
 
 -- a group does not look at the joined array
 group-any : (ag gs : List Pair) (us ws ts : List Tree) → stages us (group ag gs ∷ []) (going ts) ≡ stages ws (group ag gs ∷ []) (going ts)
-unfolding stages step performed
+unfolding stages step entering performed
 group-any ag gs us ws ts = refl
 
 -- ---- the call, by what it has read
@@ -165,9 +165,9 @@ module _ (c : RegroupCall) (ss : List Stage) (s : Stage) (ts us : List Tree)
 
   -- where it is not, the call is refused by 9
   pub regroup-long : arrayMax < arraySize (ts ++ us) → regroupVerdict c ≡ refused GroupLong
-  unfolding stages final
+  unfolding stages final refusalAt
   regroup-long over =
-      let z : stages [] (s ∷ []) (going (ts ++ us)) ≡ long =
+      let z : stages [] (s ∷ []) (going (ts ++ us)) ≡ halted tooLong =
       ap (λ x. stages [] (x ∷ []) (going (ts ++ us))) (query-such .again-is) ∙ group-long [] _ _ (ts ++ us) over in
       reads-regroup c ss s ts us r ∙ ap (final (length (c .result)) []) z
 

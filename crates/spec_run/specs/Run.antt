@@ -10,10 +10,10 @@ use Rattle.spec_trees.specs.Bytes.{arrayBytes}
 use Rattle.spec_trees.specs.Readers.{Tested, accepted, overlong, malformed}
 use Rattle.spec_trees.specs.Decode.{readArray}
 use Rattle.spec_queries.specs.Decode.{readQuery}
-use Rattle.spec_stages.specs.Stages.{State, going, large, long, stages}
+use Rattle.spec_stages.specs.Stages.{Halt, tooLong, overflow, State, going, large, halted, stages}
 use Rattle.spec_stages.specs.Positions.{resultPositions}
 use Rattle.spec_run.specs.declared.answer.Refusal.{Refusal}
-use Rattle.spec_run.specs.declared.answer.Refusal.the-variants.{WorkShort, PositionsShort, QueryLong, QueryMalformed, InputLong, InputMalformed, JoinedLong, JoinedMalformed, TreeLarge, GroupLong, ResultLong}
+use Rattle.spec_run.specs.declared.answer.Refusal.the-variants.{WorkShort, PositionsShort, QueryLong, QueryMalformed, InputLong, InputMalformed, JoinedLong, JoinedMalformed, TotalLarge, TreeLarge, GroupLong, ResultLong}
 use Rattle.spec_run.specs.Refusal.{numberOf, keepsResult, keepsWork}
 
 -- ---- what a call is lent: three areas to read, a work area, a result area and a position area, each of any length and
@@ -47,11 +47,16 @@ reading (accepted a) r s f = f a
 reading overlong r s f = refused r
 reading malformed r s f = refused s
 
+-- of a run that halts where an array enters a group
+unfoldable pub refusalAt : Halt → Refusal
+refusalAt tooLong = GroupLong
+refusalAt overflow = TotalLarge
+
 -- after the last stage: a list that, as an array, passes 16,384 bytes or the room in the result area is refused; its
 -- trees bear the positions ps
 unfoldable pub final : ℕ → List ℕ → State → Verdict
 final room ps large = refused TreeLarge
-final room ps long = refused GroupLong
+final room ps (halted h) = refused (refusalAt h)
 final room ps (going ts) =
     cond (leb (arraySize ts) arrayMax && leb (arraySize ts) room) (gives (arrayBytes ts) ps) (refused ResultLong)
 

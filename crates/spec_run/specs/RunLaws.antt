@@ -20,12 +20,12 @@ use Rattle.spec_trees.specs.ArrayLaws.{array-only, read-array}
 use Rattle.spec_queries.specs.Query.{Stage}
 use Rattle.spec_queries.specs.Decode.{readQuery}
 use Rattle.spec_queries.specs.QueryLaws.{query-only, read-query}
-use Rattle.spec_stages.specs.Stages.{State, going, large, long, stages}
+use Rattle.spec_stages.specs.Stages.{State, going, large, halted, stages}
 use Rattle.spec_stages.specs.Positions.{resultPositions}
 use Rattle.spec_stages.specs.PositionLaws.{result-count}
 use Rattle.spec_stages.specs.KeepLaws.{stages-allowed}
 use Rattle.spec_run.specs.declared.answer.Refusal.{Refusal}
-use Rattle.spec_run.specs.declared.answer.Refusal.the-variants.{WorkShort, PositionsShort, QueryLong, QueryMalformed, InputLong, InputMalformed, JoinedLong, JoinedMalformed, TreeLarge, GroupLong, ResultLong}
+use Rattle.spec_run.specs.declared.answer.Refusal.the-variants.{WorkShort, PositionsShort, QueryLong, QueryMalformed, InputLong, InputMalformed, JoinedLong, JoinedMalformed, TotalLarge, TreeLarge, GroupLong, ResultLong}
 use Rattle.spec_run.specs.Refusal.{numberOf, keepsResult, keepsWork}
 use Rattle.spec_run.specs.Run.{Call, call, Outcome, Verdict, gives, refused, reading, final, verdictOf, verdict, zeros, workAfter, numberIn, lengthIn, resultAfter, positionsAfter, outcomeOf, plainRun, plainPositions, resultBytes}
 
@@ -71,7 +71,7 @@ pub final-out : (room : ℕ) (rs : List ℕ) (x : State) (b ps : List ℕ) → f
     → (fs : List Tree) × (x ≡ going fs) × (arraySize fs ≤ arrayMax) × (arraySize fs ≤ room)
 unfolding final
 final-out room rs large b ps e = let z : _≡_ {A = ℕ} 0 1 = cc in absurd (omega arith)
-final-out room rs long b ps e = let z : _≡_ {A = ℕ} 0 1 = cc in absurd (omega arith)
+final-out room rs (halted h) b ps e = let z : _≡_ {A = ℕ} 0 1 = cc in absurd (omega arith)
 final-out room rs (going ts) b ps e =
     let c = cond-out (leb (arraySize ts) arrayMax && leb (arraySize ts) room) (gives (arrayBytes ts) rs) ResultLong b ps e in
     let p = T-and (leb (arraySize ts) arrayMax) (leb (arraySize ts) room) (c .0) in
@@ -106,8 +106,8 @@ verdict-out c b ps e =
     )
 
 -- ---- outcomes
--- a refusal's number is 1 to 11
-pub refusal-number : (r : Refusal) → (0 < numberOf r) × (numberOf r ≤ 11)
+-- a refusal's number is 1 to 12
+pub refusal-number : (r : Refusal) → (0 < numberOf r) × (numberOf r ≤ 12)
 refusal-number WorkShort = (omega arith, omega arith)
 refusal-number PositionsShort = (omega arith, omega arith)
 refusal-number QueryLong = (omega arith, omega arith)
@@ -116,6 +116,7 @@ refusal-number InputLong = (omega arith, omega arith)
 refusal-number InputMalformed = (omega arith, omega arith)
 refusal-number JoinedLong = (omega arith, omega arith)
 refusal-number JoinedMalformed = (omega arith, omega arith)
+refusal-number TotalLarge = (omega arith, omega arith)
 refusal-number TreeLarge = (omega arith, omega arith)
 refusal-number GroupLong = (omega arith, omega arith)
 refusal-number ResultLong = (omega arith, omega arith)
@@ -144,7 +145,7 @@ result-is area work b ps = take-append-seam b (drop (length b) area)
 pub outcome-same : (area work : List ℕ) (room : ℕ) (ps rs : List ℕ) (x : State) → outcomeOf area work (final room ps x) ≡ outcomeOf area work (final room rs x)
 unfolding outcomeOf numberIn lengthIn resultAfter workAfter final
 outcome-same area work room ps rs large = refl
-outcome-same area work room ps rs long = refl
+outcome-same area work room ps rs (halted h) = refl
 outcome-same area work room ps rs (going ts) = go (leb (arraySize ts) arrayMax && leb (arraySize ts) room)
   where
     go : (b : Bool) → outcomeOf area work (cond b (gives (arrayBytes ts) ps) (refused ResultLong)) ≡ outcomeOf area work (cond b (gives (arrayBytes ts) rs) (refused ResultLong))
@@ -161,15 +162,15 @@ accepted-within c ss ts us fs bq bi bj g =
     record { allowed = stages-allowed us ss ts fs (k .allowed) (o .stages) (w .allowed) (g .ran); small = g .small }
 
 -- ---- the numbers and lengths of outcomes
-verdict-number : (x : Verdict) → numberIn x ≤ 11
+verdict-number : (x : Verdict) → numberIn x ≤ 12
 unfolding numberIn
 verdict-number (gives b ps) = omega arith
 verdict-number (refused r) = refusal-number r .1
 
--- a number is at most 11; a result's length is that of an array within the limits, and no more than the result area's,
+-- a number is at most 12; a result's length is that of an array within the limits, and no more than the result area's,
 -- before the call and after it
 pub record Short (lent : List ℕ) (o : Outcome) : Type 0 where
-  pub number : o .number ≤ 11
+  pub number : o .number ≤ 12
   pub array : o .length ≤ arrayMax
   pub area : o .length ≤ length lent
   pub left : o .length ≤ length (o .result)
@@ -294,6 +295,7 @@ work-zero c n m = go (verdict c) n m
     go (refused InputMalformed) n m = refl
     go (refused JoinedLong) n m = refl
     go (refused JoinedMalformed) n m = refl
+    go (refused TotalLarge) n m = refl
     go (refused TreeLarge) n m = refl
     go (refused GroupLong) n m = refl
     go (refused ResultLong) n m = refl

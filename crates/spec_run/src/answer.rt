@@ -17,6 +17,8 @@ pub enum Refusal {
     JoinedLong,
     /// Malformed, or a tree in it is too large.
     JoinedMalformed,
+    /// A total of a class of a group does not fit a signed 64-bit integer.
+    TotalLarge,
     /// A tree was too large in a stretch.
     TreeLarge,
     /// An array that enters a group has over 16,384 bytes.

@@ -10,8 +10,7 @@ use Rattle.spec_trees.specs.Tree.{Tree, node, integer, bare, bareVoid}
 use Rattle.spec_trees.specs.Size.{arraySize}
 use Rattle.spec_trees.specs.Bytes.{arrayBytes}
 use Rattle.spec_trees.specs.Examples.{int, #, ⟨_⟩, _⇒_⨾_, decoded}
-use Rattle.spec_queries.specs.Query.{exists, equal, Stage, unwind, group, lookup}
-use Rattle.spec_queries.specs.Decode.{pairOf}
+use Rattle.spec_queries.specs.Query.{exists, equal, pairOf, Stage, unwind, group, lookup}
 use Rattle.spec_queries.specs.Examples.{admitted}
 use Rattle.spec_stages.specs.Paths.{present, join, joins, over, reached, apply}
 use Rattle.spec_stages.specs.DecisionLaws.{int?, bytes?, trees?, array?, given?}
@@ -21,13 +20,15 @@ use Rattle.spec_stages.specs.Data.{nearest, reducedInt, reducedRoot, red
 use Rattle.spec_stages.specs.Merge.{mergeRoot, merge, build}
 use Rattle.spec_stages.specs.Unwind.{holding, unwound}
 use Rattle.spec_stages.specs.Project.{kept, placeAt, placed, item, projected}
-use Rattle.spec_stages.specs.Group.{key, sameKey, alike, sum, having, classes, upto, grouped, aggregated, identified, sourced, classTree}
+use Rattle.spec_stages.specs.Sums.{added}
+use Rattle.spec_stages.specs.Totals.{rootIntegers, treeIntegers, givenIntegers, sumOf, total, fitsSigned, totalGiven}
+use Rattle.spec_stages.specs.Group.{key, sameKey, alike, sum, having, classes, upto, grouped, aggregate, aggregated, totalFits, totalsFit, identified, sourced, classTree}
 use Rattle.spec_stages.specs.Lookup.{matches, partners, looked}
-use Rattle.spec_stages.specs.Stages.{performed, leaving, isGroup, State, going, large, after, step, stages}
+use Rattle.spec_stages.specs.Stages.{performed, leaving, isGroup, State, going, large, entering, after, step, stages}
 
 -- under this name all definitions of the crate and of those below compute: joined trees, stages, input trees
 unfoldable abbrev pub ran : List Tree → List Stage → List Tree → State
-unfolding decoded admitted present join joins over reached apply int? bytes? trees? array? given? sameGiven decide holds nearest reducedInt reducedRoot reducedTree value mergeRoot merge build holding unwound kept placeAt placed item projected key sameKey alike sum having classes upto grouped aggregated identified sourced classTree matches partners looked performed leaving isGroup after step stages
+unfolding decoded admitted present join joins over reached apply int? bytes? trees? array? given? sameGiven decide holds nearest reducedInt reducedRoot reducedTree value mergeRoot merge build holding unwound kept placeAt placed item projected key sameKey alike sum having classes upto added rootIntegers treeIntegers givenIntegers sumOf total fitsSigned totalGiven grouped aggregate aggregated totalFits totalsFit identified sourced classTree matches partners looked performed leaving isGroup entering after step stages
 ran joined ss ts = stages joined ss (going ts)
 
 -- what an example gives

@@ -12,6 +12,7 @@ use Rattle.spec_stages.specs.Paths.{Given, present, over, apply}
 use Rattle.spec_stages.specs.Equality.{sameGiven}
 use Rattle.spec_stages.specs.Merge.{build}
 use Rattle.spec_stages.specs.Project.{placed}
+use Rattle.spec_stages.specs.Totals.{total, fitsSigned, totalGiven}
 
 -- ---- the sources of a tree
 unfoldable pub key : List Pair → Tree → List Given
@@ -57,9 +58,22 @@ unfoldable pub grouped : List Pair → List Tree → List Class
 grouped gs ts = gather (λ m. classes (alike gs) [] (having gs m ts)) (upto (2 ^ length gs))
 
 -- ---- the tree of a class
--- an aggregate placed: the source applied to each member, joined
+-- what an aggregate takes from the members: the source applied to each, joined; a total, the sum of the integer roots
+-- of that
+unfoldable pub aggregate : Pair → List Tree → Given
+aggregate p ts = cond (p .isTotal) (totalGiven (total (p .source) ts)) (over (apply (p .source)) ts)
+
+-- an aggregate placed
 unfoldable pub aggregated : Class → Pair → Tree
-aggregated c p = placed (p .target) (over (apply (p .source)) (c .0 ∷ c .1))
+aggregated c p = placed (p .target) (aggregate p (c .0 ∷ c .1))
+
+-- whether what it takes is a total that fits, or no total
+unfoldable pub totalFits : Pair → Class → Bool
+totalFits p c = cond (p .isTotal) (fitsSigned (total (p .source) (c .0 ∷ c .1))) true
+
+-- each total of each class fits
+unfoldable pub totalsFit : List Pair → List Class → Bool
+totalsFit ag cs = all (λ p. all (totalFits p) cs) ag
 
 -- a grouping value placed
 unfoldable pub identified : Class → Pair → Tree

@@ -5,14 +5,14 @@ use mathlib.Core.Bool.{false}
 use Rattle.spec_trees.specs.Lists.{All}
 use Rattle.spec_trees.specs.Tree.{Tree}
 use Rattle.spec_queries.specs.Query.{Stage}
-use Rattle.spec_stages.specs.Stages.{State, going, large, long, isGroup}
+use Rattle.spec_stages.specs.Stages.{State, going, large, halted, isGroup}
 
 -- lists are joined; the first stop stands
 unfoldable pub beside : State → State → State
 beside large y = large
-beside long y = long
+beside (halted h) y = halted h
 beside (going a) large = large
-beside (going a) long = long
+beside (going a) (halted h) = halted h
 beside (going a) (going b) = going (a ++ b)
 
 -- what f gives of each tree, side by side

@@ -5,7 +5,7 @@ use mathlib.Core.Bool.{Bool, true, false, cond, _&&_}
 use mathlib.Core.Option.{Option, none, some, Option·map}
 use Prim.Native.Nat.{ℕ}
 use native.Mathlib.Omega.{arith}
-use Rattle.spec_trees.specs.Options.{_>>=_}
+use Rattle.spec_trees.specs.Options.{_>>=_, maybe}
 use Rattle.spec_trees.specs.Lists.{filter, all, gather, each}
 use Rattle.spec_trees.specs.FilterLaws.{filter-append, all-append, gather-append}
 use Rattle.spec_trees.specs.Tree.{Tree}
@@ -15,7 +15,7 @@ use Rattle.spec_stages.specs.Criteria.{holds}
 use Rattle.spec_stages.specs.Unwind.{unwound}
 use Rattle.spec_stages.specs.Project.{projected}
 use Rattle.spec_stages.specs.Lookup.{looked}
-use Rattle.spec_stages.specs.Stages.{performed, leaving, isGroup, State, going, large, long, after, step, stages}
+use Rattle.spec_stages.specs.Stages.{performed, leaving, isGroup, State, going, large, halted, entering, after, step, stages}
 use Rattle.spec_stages.specs.Join.{beside, inTurn, GroupFree}
 
 -- ---- lists
@@ -71,48 +71,56 @@ after-append none y = refl
 after-append (some a) none = refl
 after-append (some a) (some b) = refl
 
--- only a group makes a run stop for length
-abbrev NotLong : State → Type 0
-NotLong (going a) = Unit {0}
-NotLong large = Unit {0}
-NotLong long = ⊥
+-- only at a group does a run halt
+pub entering-none : (s : Stage) (a : List Tree) → isGroup s ≡ false → entering s a ≡ none
+unfolding entering isGroup
+entering-none (match c) a h = refl
+entering-none (unwind p) a h = refl
+entering-none (project is) a h = refl
+entering-none (group ag gs) a h = let z : _≡_ {A = ℕ} 0 1 = cc in absurd (omega arith)
+entering-none (lookup q r p) a h = refl
 
-step-going : (us : List Tree) (s : Stage) (a : List Tree) → isGroup s ≡ false → step us s (going a) ≡ after (leaving (performed us s a))
-unfolding step
-step-going us s a h = rw h refl
+abbrev NotHalted : State → Type 0
+NotHalted (going a) = Unit {0}
+NotHalted large = Unit {0}
+NotHalted (halted h) = ⊥
 
-after-not-long : (x : Option (List Tree)) → NotLong (after x)
+pub step-going : (us : List Tree) (s : Stage) (a : List Tree) → isGroup s ≡ false → step us s (going a) ≡ after (leaving (performed us s a))
+unfolding step maybe
+step-going us s a h = rw (entering-none s a h) refl
+
+after-not-halted : (x : Option (List Tree)) → NotHalted (after x)
 unfolding after
-after-not-long none = tt
-after-not-long (some a) = tt
+after-not-halted none = tt
+after-not-halted (some a) = tt
 
-step-not-long : (us : List Tree) (s : Stage) (x : State) → isGroup s ≡ false → NotLong x → NotLong (step us s x)
+step-not-halted : (us : List Tree) (s : Stage) (x : State) → isGroup s ≡ false → NotHalted x → NotHalted (step us s x)
 unfolding step
-step-not-long us s (going a) h p = rw (step-going us s a h) (after-not-long (leaving (performed us s a)))
-step-not-long us s large h p = tt
-step-not-long us s long h p = absurd p
+step-not-halted us s (going a) h p = rw (step-going us s a h) (after-not-halted (leaving (performed us s a)))
+step-not-halted us s large h p = tt
+step-not-halted us s (halted k) h p = absurd p
 
 after-large : (x : Option (List Tree)) → large ≡ beside (after x) large
 unfolding after beside
 after-large none = refl
 after-large (some a) = refl
 
-step-beside : (us : List Tree) (s : Stage) (x y : State) → isGroup s ≡ false → NotLong x → NotLong y → step us s (beside x y) ≡ beside (step us s x) (step us s y)
+step-beside : (us : List Tree) (s : Stage) (x y : State) → isGroup s ≡ false → NotHalted x → NotHalted y → step us s (beside x y) ≡ beside (step us s x) (step us s y)
 unfolding step beside
 step-beside us s large y h p q = refl
-step-beside us s long y h p q = absurd p
-step-beside us s (going a) long h p q = absurd q
+step-beside us s (halted k) y h p q = absurd p
+step-beside us s (going a) (halted k) h p q = absurd q
 step-beside us s (going a) large h p q = rw (step-going us s a h) (after-large (leaving (performed us s a)))
 step-beside us s (going a) (going b) h p q =
     rw (step-going us s (a ++ b) h, step-going us s a h, step-going us s b h, outcome-append us s a b h, leaving-append, after-append) refl
 
 -- ---- a list of stages
-stages-beside : (us : List Tree) (ss : List Stage) (x y : State) → GroupFree ss → NotLong x → NotLong y → stages us ss (beside x y) ≡ beside (stages us ss x) (stages us ss y)
+stages-beside : (us : List Tree) (ss : List Stage) (x y : State) → GroupFree ss → NotHalted x → NotHalted y → stages us ss (beside x y) ≡ beside (stages us ss x) (stages us ss y)
 unfolding stages
 stages-beside us [] x y g p q = refl
 stages-beside us (s ∷ ss) x y g p q =
     rw (step-beside us s x y (g .0) p q)
-    (stages-beside us ss (step us s x) (step us s y) (g .1) (step-not-long us s x (g .0) p) (step-not-long us s y (g .0) q))
+    (stages-beside us ss (step us s x) (step us s y) (g .1) (step-not-halted us s x (g .0) p) (step-not-halted us s y (g .0) q))
 
 -- over a joined list, what the parts give, joined
 pub stages-join : (us : List Tree) (ss : List Stage) (a b : List Tree) → GroupFree ss
@@ -125,10 +133,10 @@ pub each-join : {A : Type 0} (us : List Tree) (ss : List Stage) (f : A → Optio
     → stages us ss (after (each f (a ++ b))) ≡ beside (stages us ss (after (each f a))) (stages us ss (after (each f b)))
 each-join us ss f a b g =
     ap (λ x. stages us ss (after x)) (each-append f a b) ∙ ap (stages us ss) (after-append (each f a) (each f b))
-    ∙ stages-beside us ss (after (each f a)) (after (each f b)) g (after-not-long (each f a)) (after-not-long (each f b))
+    ∙ stages-beside us ss (after (each f a)) (after (each f b)) g (after-not-halted (each f a)) (after-not-halted (each f b))
 
 empty-step : (us : List Tree) (s : Stage) → isGroup s ≡ false → step us s (going []) ≡ going []
-unfolding step isGroup performed filter gather each leaving all after
+unfolding step entering maybe isGroup performed filter gather each leaving all after
 empty-step us (match c) h = refl
 empty-step us (unwind p) h = refl
 empty-step us (project is) h = refl

@@ -1,14 +1,14 @@
 -- Every stage keeps trees well formed, and what leaves it is not too large: the stages keep arrays within the limits.
-use mathlib.Core.Path.{_≡_, sym, subst}
+use mathlib.Core.Path.{_≡_, refl, sym, subst}
 use mathlib.Core.List.{List, [], _∷_, _++_, map}
-use mathlib.Core.Bool.{Bool, false, not, _&&_}
+use mathlib.Core.Bool.{Bool, true, false, cond, not, _&&_}
 use mathlib.Core.Logic.{_≢_}
 use mathlib.Core.Option.{Option, none, some, Option·map}
 use Prim.Native.Nat.{ℕ, zero, suc, _+_, _*_, _^_, _≤_, _<_}
 use native.Mathlib.Nat.{le-of-suc-le-suc, div-lt-iff-lt-mul, mul-le-mul-left, suc-mul}
 use native.Mathlib.Omega.{arith}
 use lib.ListN.{length}
-use lib.IntN.{pos, negsuc, negℤ}
+use lib.IntN.{ℤ, pos, negsuc, negℤ}
 use lib.Signed.{mag}
 use lib.Dec.{T, eqb, leb, ltb, leb→le, ltb→lt, eqb→eq, nltb→le, eqb-refl}
 use Rattle.spec_trees.specs.Options.{_>>=_, maybe}
@@ -18,7 +18,7 @@ use Rattle.spec_trees.specs.Tree.{Root, void, boolean, integer, text, Tree, nod
 use Rattle.spec_trees.specs.Size.{size, depth, fits, arraySize}
 use Rattle.spec_trees.specs.Within.{OkR, Ok, OkA, OkL, Allowed, AllowedA}
 use Rattle.spec_trees.specs.OptionLaws.{true-T, false-T, T-and, cond-cases}
-use Rattle.spec_trees.specs.ListLaws.{All-append, All-filter, All-map, All-gather, All-imply, All-every}
+use Rattle.spec_trees.specs.ListLaws.{All-append, All-filter, All-map, All-gather, All-imply, All-every, All-both}
 use Rattle.spec_queries.specs.Query.{Path, Route, Data, literal, path, listed, test, choice, reduced, Datas, ended, more, Item, keep, place, Pair, Stage, match, unwind, project, group, lookup, isDivisor}
 use Rattle.spec_queries.specs.Rules.{OkP, OkD, OkDs, OkI, OkPair, OkS}
 use Rattle.spec_queries.specs.PathLaws.{path-labels}
@@ -28,9 +28,11 @@ use Rattle.spec_stages.specs.Data.{nearest, reducedInt, reducedRoot, red
 use Rattle.spec_stages.specs.Merge.{mergeRoot, merge, mergeA, mergeL, build}
 use Rattle.spec_stages.specs.Unwind.{holding, unwound}
 use Rattle.spec_stages.specs.Project.{kept, placeAt, placed, item, projected}
-use Rattle.spec_stages.specs.Group.{key, alike, sum, having, Class, classes, upto, grouped, aggregated, identified, sourced, classTree}
+use Rattle.spec_stages.specs.Totals.{total, fitsSigned, totalGiven}
+use Rattle.spec_stages.specs.Group.{key, alike, sum, having, Class, classes, upto, grouped, aggregate, aggregated, totalFits, totalsFit, identified, sourced, classTree}
 use Rattle.spec_stages.specs.Lookup.{matches, partners, looked}
-use Rattle.spec_stages.specs.Stages.{performed, leaving, isGroup, State, going, large, long, after, step, stages}
+use Rattle.spec_stages.specs.Stages.{performed, leaving, Halt, tooLong, overflow, State, going, large, halted, entering, after, step, stages}
+use Rattle.spec_stages.specs.FitLaws.{ClassFits, fit-classes}
 
 -- ---- well formed trees in a list, in a tree, and where something may be missing
 abbrev pub OkTs : List Tree → Type 0
@@ -267,13 +269,31 @@ grouped-ok gs ts o = All-gather (λ m. Unit {0}) OkClass (λ m. classes (alike g
 target : (p : Pair) → OkPair p → Labelled (p .target)
 target p o = labelled (p .target) (o .1 .0)
 
-classTree-ok : (ag gs : List Pair) → All OkPair ag → All OkPair gs → (c : Class) → OkClass c → OkO (classTree ag gs c)
+-- what a total that fits places
+pub total-ok : (x : Option ℤ) → fitsSigned x ≡ true → OkF (totalGiven x)
+unfolding fitsSigned totalGiven maybe
+total-ok none h = tt
+total-ok (some z) h = ((ltb→lt (mag z) (2 ^ 63) (true-T h), tt), tt)
+
+pub aggregate-ok : (p : Pair) (c : Class) → OkTs (c .0 ∷ c .1) → totalFits p c ≡ true → OkF (aggregate p (c .0 ∷ c .1))
+unfolding aggregate totalFits
+aggregate-ok p c o f = go (p .isTotal) f
+  where
+    ms : List Tree
+    ms = c .0 ∷ c .1
+
+    go : (b : Bool) → cond b (fitsSigned (total (p .source) ms)) true ≡ true → OkF (cond b (totalGiven (total (p .source) ms)) (over (apply (p .source)) ms))
+    go true f = total-ok (total (p .source) ms) f
+    go false f = over-ok (apply (p .source)) (apply-ok (p .source)) ms o
+
+classTree-ok : (ag gs : List Pair) → All OkPair ag → All OkPair gs → (c : Class) → OkClass c × ClassFits ag c → OkO (classTree ag gs c)
 unfolding classTree aggregated identified
-classTree-ok ag gs g h c o =
+classTree-ok ag gs g h c (o, f) =
     let hs : List Pair = filter (sourced c) gs in
     build-ok bareVoid (map (aggregated c) ag ++ map (identified c) hs) (tt, tt)
     (All-append Ok (map (aggregated c) ag) (map (identified c) hs)
-    (All-map OkPair Ok (aggregated c) (λ p l. placed-ok (p .target) (target p l) (over (apply (p .source)) (c .0 ∷ c .1)) (over-ok (apply (p .source)) (apply-ok (p .source)) (c .0 ∷ c .1) o)) ag g)
+    (All-map (λ p. OkPair p × (totalFits p c ≡ true)) Ok (aggregated c) (λ p l. placed-ok (p .target) (target p (l .0)) (aggregate p (c .0 ∷ c .1)) (aggregate-ok p c o (l .1))) ag
+    (All-both OkPair (λ p. totalFits p c ≡ true) ag g f))
     (All-map OkPair Ok (identified c) (λ p l. placed-ok (p .target) (target p l) (apply (p .source) (c .0)) (apply-ok (p .source) (c .0) (o .0))) hs (All-filter OkPair (sourced c) gs h)))
 
 -- ---- stages
@@ -300,13 +320,25 @@ looked-ok : (q r : Route) (p : Path) (joined : List Tree) → OkP p → OkTs joi
 unfolding looked
 looked-ok q r p joined g j t o = build-ok t (placeAt p (partners q r joined t) ∷ []) o (partners-ok q r p joined g j t, tt)
 
-outcome-ok : (joined : List Tree) (s : Stage) (ts : List Tree) → OkTs joined → OkS s → OkTs ts → OkF (performed joined s ts)
+-- an array that enters a group whose totals fit
+entering-fits : (ag gs : List Pair) (ts : List Tree) → entering (group ag gs) ts ≡ none → totalsFit ag (grouped gs ts) ≡ true
+unfolding entering
+entering-fits ag gs ts e = go (leb (arraySize ts) arrayMax) (totalsFit ag (grouped gs ts)) e
+  where
+    go : (a b : Bool) → cond a (cond b none (some overflow)) (some tooLong) ≡ none → b ≡ true
+    go true true e = refl
+    go true false e = let z : _≡_ {A = ℕ} 0 1 = cc in absurd (omega arith)
+    go false b e = let z : _≡_ {A = ℕ} 0 1 = cc in absurd (omega arith)
+
+outcome-ok : (joined : List Tree) (s : Stage) (ts : List Tree) → OkTs joined → OkS s → OkTs ts → entering s ts ≡ none → OkF (performed joined s ts)
 unfolding performed
-outcome-ok joined (match c) ts j g o = All-filter Ok (holds c) ts o
-outcome-ok joined (unwind p) ts j g o = All-gather Ok Ok (unwound p) (unwound-ok p (labelled p g)) ts o
-outcome-ok joined (project is) ts j g o = each-ok Ok (projected is) (projected-ok is (g .0)) ts o
-outcome-ok joined (group ag gs) ts j g o = each-ok OkClass (classTree ag gs) (classTree-ok ag gs (g .0 .0) (g .1 .0)) (grouped gs ts) (grouped-ok gs ts o)
-outcome-ok joined (lookup q r p) ts j g o = each-ok Ok (looked q r p joined) (looked-ok q r p joined (g .2 .0) j) ts o
+outcome-ok joined (match c) ts j g o e = All-filter Ok (holds c) ts o
+outcome-ok joined (unwind p) ts j g o e = All-gather Ok Ok (unwound p) (unwound-ok p (labelled p g)) ts o
+outcome-ok joined (project is) ts j g o e = each-ok Ok (projected is) (projected-ok is (g .0)) ts o
+outcome-ok joined (group ag gs) ts j g o e =
+    each-ok (λ c. OkClass c × ClassFits ag c) (classTree ag gs) (classTree-ok ag gs (g .0 .0) (g .1 .0)) (grouped gs ts)
+    (All-both OkClass (ClassFits ag) (grouped gs ts) (grouped-ok gs ts o) (fit-classes ag (grouped gs ts) (entering-fits ag gs ts e)))
+outcome-ok joined (lookup q r p) ts j g o e = each-ok Ok (looked q r p joined) (looked-ok q r p joined (g .2 .0) j) ts o
 
 -- ---- what leaves a stage is not too large
 pub fits-allowed : (t : Tree) → Ok t → T (fits t) → Allowed depthMax t
@@ -324,7 +356,7 @@ all-allowed (t ∷ ts) o h = let p = T-and (fits t) (all fits ts) h in (fits-all
 abbrev pub AllowedS : State → Type 0
 AllowedS (going ts) = AllowedA ts
 AllowedS large = Unit {0}
-AllowedS long = Unit {0}
+AllowedS (halted h) = Unit {0}
 
 leaving-ok : (x : Given) → OkF x → AllowedS (after (leaving x))
 unfolding after leaving
@@ -332,11 +364,14 @@ leaving-ok none o = tt
 leaving-ok (some ts) o = cond-cases (λ y. AllowedS (after y)) (all fits ts) (λ e. all-allowed ts o (true-T e)) (λ e. tt)
 
 step-allowed : (joined : List Tree) (s : Stage) (x : State) → OkTs joined → OkS s → AllowedS x → AllowedS (step joined s x)
-unfolding step
+unfolding step maybe
 step-allowed joined s large j g o = tt
-step-allowed joined s long j g o = tt
-step-allowed joined s (going ts) j g o = cond-cases AllowedS (isGroup s && not (leb (arraySize ts) arrayMax))
-    (λ e. tt) (λ e. leaving-ok (performed joined s ts) (outcome-ok joined s ts j g (allowed-ok ts o)))
+step-allowed joined s (halted h) j g o = tt
+step-allowed joined s (going ts) j g o = go (entering s ts) refl
+  where
+    go : (h : Option Halt) → entering s ts ≡ h → AllowedS (maybe (after (leaving (performed joined s ts))) halted h)
+    go none e = leaving-ok (performed joined s ts) (outcome-ok joined s ts j g (allowed-ok ts o) e)
+    go (some h) e = tt
 
 states-allowed : (joined : List Tree) (ss : List Stage) (x : State) → OkTs joined → All OkS ss → AllowedS x → AllowedS (stages joined ss x)
 unfolding stages

@@ -8,10 +8,10 @@ use lib.Dec.{eqb}
 use Rattle.spec_trees.specs.Lists.{filter, gather}
 use Rattle.spec_trees.specs.Tree.{Tree, bareVoid}
 use Rattle.spec_queries.specs.Query.{Pair}
-use Rattle.spec_stages.specs.Paths.{Given, over, apply}
+use Rattle.spec_stages.specs.Paths.{Given}
 use Rattle.spec_stages.specs.Merge.{build}
 use Rattle.spec_stages.specs.Project.{placeAt, placed}
-use Rattle.spec_stages.specs.Group.{key, sameKey, sum, upto}
+use Rattle.spec_stages.specs.Group.{key, sameKey, sum, upto, aggregate}
 
 -- ---- lists, by what e finds equal
 module _ {A : Type 0} (e : A → A → Bool) where
@@ -37,10 +37,6 @@ keys gs ts = ranked sameKey sum (2 ^ length gs) (map (key gs) ts)
 unfoldable pub sharing : List Pair → List Given → List Tree → List Tree
 sharing gs x = filter (λ t. sameKey x (key gs t))
 
--- what an aggregate takes from the members of a class
-unfoldable pub gathered : Pair → List Tree → Given
-gathered p ts = over (apply (p .source)) ts
-
 -- the values of a key that are present, each placed
 unfoldable pub shown : List Pair → List Given → List Tree
 shown [] x = []
@@ -50,4 +46,4 @@ shown (p ∷ gs) (some a ∷ x) = placeAt (p .target) a ∷ shown gs x
 
 -- the tree of the class that has the key x and the members ms
 unfoldable pub made : List Pair → List Pair → List Given → List Tree → Option Tree
-made ag gs x ms = build bareVoid (map (λ p. placed (p .target) (gathered p ms)) ag ++ shown gs x)
+made ag gs x ms = build bareVoid (map (λ p. placed (p .target) (aggregate p ms)) ag ++ shown gs x)

@@ -18,7 +18,7 @@ use Rattle.spec_stages.specs.Merge.{build}
 use Rattle.spec_stages.specs.Project.{placed}
 use Rattle.spec_stages.specs.Group.{key, sameKey, alike, sum, having, Class, classes, upto, grouped, aggregated, identified, sourced, classTree}
 use Rattle.spec_stages.specs.Stages.{performed}
-use Rattle.spec_stages.specs.Keys.{without, once, ranked, keys, sharing, gathered, shown, made}
+use Rattle.spec_stages.specs.Keys.{without, once, ranked, keys, sharing, shown, made}
 use Rattle.spec_stages.specs.AlikeLaws.{same-key, sum-below}
 use Rattle.spec_stages.specs.OnceLaws.{All-once, once-equal, All-ranked, ranked-equal}
 
@@ -135,8 +135,8 @@ shown-key c (p ∷ gs) = go (apply (p .source) (c .0)) refl (shown-key c gs)
     go none z h = h
     go (some a) z h = ap₂ _∷_ (ap (placed (p .target)) z) h
 
-made-told : (ag gs : List Pair) (c : Class) → classTree ag gs c ≡ made ag gs (key gs (c .0)) (c .0 ∷ c .1)
-unfolding classTree made aggregated gathered
+pub made-told : (ag gs : List Pair) (c : Class) → classTree ag gs c ≡ made ag gs (key gs (c .0)) (c .0 ∷ c .1)
+unfolding classTree made aggregated
 made-told ag gs c = ap (λ l. build bareVoid (map (aggregated c) ag ++ l)) (shown-key c gs)
 
 -- what a group gives, key by key

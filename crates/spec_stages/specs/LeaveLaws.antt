@@ -6,7 +6,7 @@ use mathlib.Core.Option.{Option, none, some, Option·map}
 use Prim.Native.Nat.{ℕ, _≤_, _<_}
 use native.Mathlib.Omega.{arith}
 use Rattle.spec_trees.specs.Limits.{depthMax, arrayMax}
-use Rattle.spec_trees.specs.Options.{_>>=_}
+use Rattle.spec_trees.specs.Options.{_>>=_, maybe}
 use Rattle.spec_trees.specs.OptionLaws.{leb-yes, leb-no}
 use Rattle.spec_trees.specs.Lists.{All, filter, all, each}
 use Rattle.spec_trees.specs.ListLaws.{All-every}
@@ -17,8 +17,8 @@ use Rattle.spec_queries.specs.Query.{Path, Route, Item, Pair, group}
 use Rattle.spec_stages.specs.Merge.{build}
 use Rattle.spec_stages.specs.Project.{item, projected}
 use Rattle.spec_stages.specs.Lookup.{looked}
-use Rattle.spec_stages.specs.Group.{Class, aggregated, identified, sourced, classTree, grouped}
-use Rattle.spec_stages.specs.Stages.{going, long, isGroup, performed, leaving, after, step}
+use Rattle.spec_stages.specs.Group.{Class, aggregated, identified, sourced, classTree, grouped, totalsFit}
+use Rattle.spec_stages.specs.Stages.{tooLong, overflow, going, halted, entering, performed, leaving, after, step}
 use Rattle.spec_stages.specs.StageLaws.{fits-of, build-fits, void-fits}
 
 -- trees that fit leave as they are
@@ -50,14 +50,21 @@ pub looked-leave : (q r : Route) (p : Path) (us ts : List Tree) → AllowedA ts 
 unfolding looked
 looked-leave q r p us ts a = each-fits (Allowed depthMax) (looked q r p us) (λ t y h e. build-fits t _ (fits-of h) e) ts a
 
-classes-leave : (ags gs : List Pair) (cs : List Class) → leaving (each (classTree ags gs) cs) ≡ each (classTree ags gs) cs
+pub classes-leave : (ags gs : List Pair) (cs : List Class) → leaving (each (classTree ags gs) cs) ≡ each (classTree ags gs) cs
 unfolding classTree
 classes-leave ags gs cs = made-fits (λ c. map (aggregated c) ags ++ map (identified c) (filter (sourced c) gs)) cs
 
-pub group-step : (us : List Tree) (ags gs : List Pair) (ts : List Tree) → arraySize ts ≤ arrayMax → step us (group ags gs) (going ts) ≡ after (each (classTree ags gs) (grouped gs ts))
-unfolding step isGroup performed
-group-step us ags gs ts b = rw (leb-yes (arraySize ts) arrayMax b) (ap after (classes-leave ags gs (grouped gs ts)))
+pub group-step : (us : List Tree) (ags gs : List Pair) (ts : List Tree) → arraySize ts ≤ arrayMax → totalsFit ags (grouped gs ts) ≡ true
+    → step us (group ags gs) (going ts) ≡ after (each (classTree ags gs) (grouped gs ts))
+unfolding step entering maybe performed
+group-step us ags gs ts b f = rw (leb-yes (arraySize ts) arrayMax b, f) (ap after (classes-leave ags gs (grouped gs ts)))
 
-pub group-long : (us : List Tree) (ags gs : List Pair) (ts : List Tree) → arrayMax < arraySize ts → step us (group ags gs) (going ts) ≡ long
-unfolding step isGroup
+-- a total that does not fit is found where the array enters, before any tree of the group is tested
+pub group-overflow : (us : List Tree) (ags gs : List Pair) (ts : List Tree) → arraySize ts ≤ arrayMax → totalsFit ags (grouped gs ts) ≡ false
+    → step us (group ags gs) (going ts) ≡ halted overflow
+unfolding step entering maybe
+group-overflow us ags gs ts b f = rw (leb-yes (arraySize ts) arrayMax b, f) refl
+
+pub group-long : (us : List Tree) (ags gs : List Pair) (ts : List Tree) → arrayMax < arraySize ts → step us (group ags gs) (going ts) ≡ halted tooLong
+unfolding step entering maybe
 group-long us ags gs ts b = rw (leb-no (arraySize ts) arrayMax b) refl

@@ -6,6 +6,7 @@ pub mod Data
 pub mod Merge
 pub mod Unwind
 pub mod Project
+pub mod Totals
 pub mod Group
 pub mod Lookup
 pub mod Stages
@@ -21,6 +22,7 @@ pub mod Sums
 pub mod Flat
 pub mod Positions
 -- Laws.
+pub mod FitLaws
 pub mod DecisionLaws
 pub mod EqualityLaws
 pub mod PathLaws
@@ -40,8 +42,10 @@ pub mod OnceLaws
 pub mod PermutesLaws
 pub mod SumsLaws
 pub mod GroupedLaws
+pub mod TotalsLaws
 pub mod KeysLaws
 pub mod ReadLaws
+pub mod TotalReadLaws
 pub mod RegroupLaws
 pub mod TrayLaws
 pub mod FirstMemberLaws
@@ -49,3 +53,4 @@ pub mod PositionLaws
 pub mod LocalLaws
 pub mod Examples
 pub mod PositionExamples
+pub mod TotalsExamples

@@ -4,8 +4,7 @@ use mathlib.Core.List.{List, [], _∷_, map}
 use Prim.Native.Nat.{ℕ}
 use Rattle.spec_trees.specs.Tree.{Tree, bare, bareVoid}
 use Rattle.spec_trees.specs.Examples.{#, ⟨_⟩, _⇒_⨾_}
-use Rattle.spec_queries.specs.Query.{exists, Stage, match, unwind, group, lookup}
-use Rattle.spec_queries.specs.Decode.{pairOf}
+use Rattle.spec_queries.specs.Query.{exists, pairOf, Stage, match, unwind, group, lookup}
 use Rattle.spec_stages.specs.Positions.{marked, numbered, borneHaving, borneClasses, borneGrouped, sole, carry, carried, resultPositions}
 use Rattle.spec_stages.specs.Examples.{ran}
 

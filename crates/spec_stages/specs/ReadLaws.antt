@@ -21,7 +21,8 @@ use Rattle.spec_queries.specs.Again.{targets, leads, distinctLabels, distinctTa
 use Rattle.spec_stages.specs.Paths.{Given, apply}
 use Rattle.spec_stages.specs.Merge.{merge, mergeA, mergeL, build}
 use Rattle.spec_stages.specs.Project.{placeAt, placed}
-use Rattle.spec_stages.specs.Keys.{gathered, shown, made}
+use Rattle.spec_stages.specs.Group.{aggregate}
+use Rattle.spec_stages.specs.Keys.{shown, made}
 use Rattle.spec_stages.specs.PathLaws.{apply-label}
 
 -- ---- labels
@@ -174,7 +175,7 @@ bare-lacks (d ∷ ds) o = (o .0 .unplaced, bare-lacks ds (o .2))
 
 -- of the tree of a class
 pub made-reads : (ag gs : List Pair) (x : List Given) (ms : List Tree) {r : Tree} → distinctTargets ag gs ≡ true → length x ≡ length gs
-    → made ag gs x ms ≡ some r → All (λ p. apply (p .target) r ≡ gathered p ms) ag × (map (λ p. apply (p .target) r) gs ≡ x)
+    → made ag gs x ms ≡ some r → All (λ p. apply (p .target) r ≡ aggregate p ms) ag × (map (λ p. apply (p .target) r) gs ≡ x)
 unfolding distinctTargets made
 made-reads ag gs x ms g n h =
-    let o = labels-distinct (targets (ag ++ gs)) g in reads-parts (λ p. gathered p ms) gs x n ag bareVoid o (bare-lacks (targets (ag ++ gs)) o) h
+    let o = labels-distinct (targets (ag ++ gs)) g in reads-parts (λ p. aggregate p ms) gs x n ag bareVoid o (bare-lacks (targets (ag ++ gs)) o) h

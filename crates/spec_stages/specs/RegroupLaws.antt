@@ -11,13 +11,15 @@ use Rattle.spec_trees.specs.ListLaws.{All-append, All-passed, All-imply}
 use Rattle.spec_trees.specs.FilterLaws.{filter-append, gather-append, map-same, gather-same, each-same, map-gather, each-parts, Back, each-back, each-filter}
 use Rattle.spec_trees.specs.Tree.{Tree, bareVoid}
 use Rattle.spec_queries.specs.Query.{Pair, group}
-use Rattle.spec_queries.specs.Again.{again, distinctTargets, regrouped}
+use Rattle.spec_queries.specs.Again.{again, regroups, regrouped}
+use Rattle.spec_queries.specs.Rules.{Plain}
+use Rattle.spec_queries.specs.AgainLaws.{regroups-parts, none-totals}
 use Rattle.spec_stages.specs.Paths.{Given, join, joins, over, apply}
 use Rattle.spec_stages.specs.Merge.{build}
 use Rattle.spec_stages.specs.Project.{placeAt, placed}
-use Rattle.spec_stages.specs.Group.{key, sameKey, sum}
+use Rattle.spec_stages.specs.Group.{key, sameKey, sum, aggregate}
 use Rattle.spec_stages.specs.Stages.{performed}
-use Rattle.spec_stages.specs.Keys.{once, ranked, keys, sharing, gathered, shown, made}
+use Rattle.spec_stages.specs.Keys.{once, ranked, keys, sharing, shown, made}
 use Rattle.spec_stages.specs.Trays.{Tray, inputs, results, GroupGives}
 use Rattle.spec_stages.specs.AlikeLaws.{same-key}
 use Rattle.spec_stages.specs.OnceLaws.{ranked-gather}
@@ -37,19 +39,25 @@ members c = c .first ∷ c .others
 
 -- the tree holds what the pair took from the members
 abbrev Holds : Pair → Part → Type 0
-Holds p c = apply (p .target) (c .tree) ≡ gathered p (members c)
+Holds p c = apply (p .target) (c .tree) ≡ aggregate p (members c)
 
-joins-parts : (p : Pair) (cs : List Part) → All (Holds p) cs
+-- that is what its source gives of each, joined: it is no total
+plain-takes : (p : Pair) → Plain p → (ts : List Tree) → aggregate p ts ≡ over (apply (p .source)) ts
+unfolding aggregate
+plain-takes p o ts = rw o refl
+
+joins-parts : (p : Pair) → Plain p → (cs : List Part) → All (Holds p) cs
     → joins (map (apply (p .target)) (map (λ c. c .tree) cs)) ≡ joins (map (apply (p .source)) (gather members cs))
-unfolding joins gather gathered over
-joins-parts p [] h = refl
-joins-parts p (c ∷ cs) h = ap₂ join (h .0) (joins-parts p cs (h .1)) ∙ sym (joins-append (apply (p .source)) (members c) (gather members cs))
+unfolding joins gather over
+joins-parts p o [] h = refl
+joins-parts p o (c ∷ cs) h =
+    ap₂ join (h .0 ∙ plain-takes p o (members c)) (joins-parts p o cs (h .1)) ∙ sym (joins-append (apply (p .source)) (members c) (gather members cs))
 
 -- from the trees of the parts a pair takes again what it takes from all members
-gathered-again : (p : Pair) (cs : List Part) → All (Holds p) cs → gathered (again p) (map (λ c. c .tree) cs) ≡ gathered p (gather members cs)
-unfolding gathered again over gather
-gathered-again p [] h = refl
-gathered-again p (c ∷ cs) h = joins-parts p (c ∷ cs) h
+taken-again : (p : Pair) → Plain p → (cs : List Part) → All (Holds p) cs → aggregate (again p) (map (λ c. c .tree) cs) ≡ aggregate p (gather members cs)
+unfolding aggregate again over gather
+taken-again p o [] h = rw o refl
+taken-again p o (c ∷ cs) h = joins-parts p o (c ∷ cs) h ∙ sym (plain-takes p o (gather members (c ∷ cs)))
 
 -- ---- the tree of a class, made again
 shown-again : (gs : List Pair) (x : List Given) → shown (map again gs) x ≡ shown gs x
@@ -59,15 +67,15 @@ shown-again (p ∷ gs) [] = refl
 shown-again (p ∷ gs) (none ∷ x) = shown-again gs x
 shown-again (p ∷ gs) (some a ∷ x) = ap (λ l. placeAt (p .target) a ∷ l) (shown-again gs x)
 
-made-again : (ag gs : List Pair) (x : List Given) (rs ts : List Tree) → All (λ p. gathered (again p) rs ≡ gathered p ts) ag
+made-again : (ag gs : List Pair) (x : List Given) (rs ts : List Tree) → All (λ p. aggregate (again p) rs ≡ aggregate p ts) ag
     → made (map again ag) (map again gs) x rs ≡ made ag gs x ts
 unfolding made again
 made-again ag gs x rs ts h =
-    let f : Pair → Tree = λ p. placed (p .target) (gathered (again p) rs) in
-    let g : Pair → Tree = λ p. placed (p .target) (gathered p ts) in
+    let f : Pair → Tree = λ p. placed (p .target) (aggregate (again p) rs) in
+    let g : Pair → Tree = λ p. placed (p .target) (aggregate p ts) in
     ap₂ (λ a b. build bareVoid (a ++ b))
-    (map-map (λ p. placed (p .target) (gathered p rs)) again ag
-    ∙ map-same f g ag (All-imply (λ p. gathered (again p) rs ≡ gathered p ts) (λ p. f p ≡ g p) (λ p z. ap (placed (p .target)) z) ag h))
+    (map-map (λ p. placed (p .target) (aggregate p rs)) again ag
+    ∙ map-same f g ag (All-imply (λ p. aggregate (again p) rs ≡ aggregate p ts) (λ p. f p ≡ g p) (λ p z. ap (placed (p .target)) z) ag h))
     (shown-again gs x)
 
 -- ---- the trees of one key
@@ -97,17 +105,17 @@ module _ (ag gs : List Pair) (x : List Given) where
   }
 
   -- so the tree of the key is the same
-  shares-made : (rs ts : List Tree) → Shares rs ts → made (map again ag) (map again gs) x (sharing (map again gs) x rs) ≡ made ag gs x (sharing gs x ts)
-  shares-made rs ts h =
+  shares-made : All Plain ag → (rs ts : List Tree) → Shares rs ts → made (map again ag) (map again gs) x (sharing (map again gs) x rs) ≡ made ag gs x (sharing gs x ts)
+  shares-made plains rs ts h =
       rw (h .results-are, h .inputs-are)
-      (made-again ag gs x (map (λ c. c .tree) (h .parts)) (gather members (h .parts)) (taken ag (h .hold)))
+      (made-again ag gs x (map (λ c. c .tree) (h .parts)) (gather members (h .parts)) (taken ag plains (h .hold)))
     where
-      taken : (ag : List Pair) → All (λ c. All (λ p. Holds p c) ag) (h .parts)
-          → All (λ p. gathered (again p) (map (λ c. c .tree) (h .parts)) ≡ gathered p (gather members (h .parts))) ag
-      taken [] a = tt
-      taken (p ∷ ag) a = (
-        gathered-again p (h .parts) (All-imply (λ c. All (λ q. Holds q c) (p ∷ ag)) (Holds p) (λ c b. b .0) (h .parts) a),
-        taken ag (All-imply (λ c. All (λ q. Holds q c) (p ∷ ag)) (λ c. All (λ q. Holds q c) ag) (λ c b. b .1) (h .parts) a),
+      taken : (ag : List Pair) → All Plain ag → All (λ c. All (λ p. Holds p c) ag) (h .parts)
+          → All (λ p. aggregate (again p) (map (λ c. c .tree) (h .parts)) ≡ aggregate p (gather members (h .parts))) ag
+      taken [] o a = tt
+      taken (p ∷ ag) o a = (
+        taken-again p (o .0) (h .parts) (All-imply (λ c. All (λ q. Holds q c) (p ∷ ag)) (Holds p) (λ c b. b .0) (h .parts) a),
+        taken ag (o .1) (All-imply (λ c. All (λ q. Holds q c) (p ∷ ag)) (λ c. All (λ q. Holds q c) ag) (λ c b. b .1) (h .parts) a),
       )
 
 -- ---- one tray
@@ -115,7 +123,7 @@ key-again : (gs : List Pair) (t : Tree) → key (map again gs) t ≡ map (λ p. 
 unfolding key again
 key-again gs t = map-map (λ p. apply (p .source) t) again gs
 
-module _ (us : List Tree) (ag gs : List Pair) (g : distinctTargets ag gs ≡ true) (k : Tray) (h : GroupGives us ag gs k) where
+module _ (us : List Tree) (ag gs : List Pair) (g : regroups ag gs ≡ true) (k : Tray) (h : GroupGives us ag gs k) where
   -- the tree of the class that has the key x
   abbrev treeOf : List Given → Option Tree
   treeOf x = made ag gs x (sharing gs x (k .input))
@@ -125,10 +133,10 @@ module _ (us : List Tree) (ag gs : List Pair) (g : distinctTargets ag gs ≡ tru
 
   -- what is read of it
   tree-reads : (x : List Given) → KeyOf gs x → (r : Tree) → treeOf x ≡ some r
-      → All (λ p. apply (p .target) r ≡ gathered p (sharing gs x (k .input))) ag × (key (map again gs) r ≡ x)
+      → All (λ p. apply (p .target) r ≡ aggregate p (sharing gs x (k .input))) ag × (key (map again gs) r ≡ x)
   unfolding key
   tree-reads x o r z =
-      let a = made-reads ag gs x (sharing gs x (k .input)) g (ap length (o .1) ∙ length-map gs (λ p. apply (p .source) (o .0))) z in
+      let a = made-reads ag gs x (sharing gs x (k .input)) (regroups-parts ag gs g .1) (ap length (o .1) ∙ length-map gs (λ p. apply (p .source) (o .0))) z in
       (a .0, key-again gs r ∙ a .1)
 
   tray-back : All (Back treeOf (key (map again gs))) (keys gs (k .input))
@@ -156,11 +164,11 @@ module _ (us : List Tree) (ag gs : List Pair) (g : distinctTargets ag gs ≡ tru
             parts = record { tree = c .first; first = t; others = ms } ∷ [];
             results-are = sym (c .all-are) ∙ ap (λ l. c .first ∷ l) (sym (some-equal [] (c .others) (c .others-are)));
             inputs-are = z ∙ sym (append-nil (t ∷ ms));
-            hold = (subst (λ l. All (λ p. apply (p .target) (c .first) ≡ gathered p l) ag) z (tree-reads x o (c .first) (c .first-is) .0), tt);
+            hold = (subst (λ l. All (λ p. apply (p .target) (c .first) ≡ aggregate p l) ag) z (tree-reads x o (c .first) (c .first-is) .0), tt);
           }
 
 -- ---- the whole, of any number of trays
-module _ (us : List Tree) (ag gs : List Pair) (g : distinctTargets ag gs ≡ true) where
+module _ (us : List Tree) (ag gs : List Pair) (g : regroups ag gs ≡ true) where
   trays-share : (x : List Given) → KeyOf gs x → (ks : List Tray) → All (GroupGives us ag gs) ks → Shares ag gs x (results ks) (inputs ks)
   unfolding gather
   trays-share x o [] h = shares-none ag gs x
@@ -183,7 +191,7 @@ module _ (us : List Tree) (ag gs : List Pair) (g : distinctTargets ag gs ≡ tru
     regroup-law ws =
         let f : List Given → Option Tree = λ x. made (map again ag) (map again gs) x (sharing (map again gs) x (results ks)) in
         let f′ : List Given → Option Tree = λ x. made ag gs x (sharing gs x (inputs ks)) in
-        let same : (x : List Given) → KeyOf gs x → f x ≡ f′ x = λ x o. shares-made ag gs x (results ks) (inputs ks) (trays-share x o ks h) in
+        let same : (x : List Given) → KeyOf gs x → f x ≡ f′ x = λ x o. shares-made ag gs x (none-totals ag (regroups-parts ag gs g .0)) (results ks) (inputs ks) (trays-share x o ks h) in
         let xs = keys gs (inputs ks) in
         group-told ws (map again ag) (map again gs) (results ks) ∙ ap (each f) keys-again
         ∙ each-same f f′ xs (All-imply (KeyOf gs) (λ x. f x ≡ f′ x) same xs (keys-of gs (inputs ks)))

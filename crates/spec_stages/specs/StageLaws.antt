@@ -5,7 +5,7 @@ use mathlib.Core.Bool.{Bool, true, false, cond, _&&_}
 use mathlib.Core.Option.{Option, none, some, Option·map}
 use Prim.Native.Nat.{ℕ}
 use native.Mathlib.Omega.{arith}
-use Rattle.spec_trees.specs.Options.{_>>=_}
+use Rattle.spec_trees.specs.Options.{_>>=_, maybe}
 use Rattle.spec_trees.specs.OptionLaws.{leb-yes, some-equal}
 use Rattle.spec_trees.specs.Lists.{filter, all, gather, each}
 use Rattle.spec_trees.specs.Limits.{treeMax, depthMax}
@@ -20,7 +20,7 @@ use Rattle.spec_stages.specs.Merge.{merge, build}
 use Rattle.spec_stages.specs.Unwind.{holding, unwound}
 use Rattle.spec_stages.specs.Project.{projected}
 use Rattle.spec_stages.specs.Lookup.{looked}
-use Rattle.spec_stages.specs.Stages.{performed, leaving, isGroup, going, large, after, step, stages}
+use Rattle.spec_stages.specs.Stages.{performed, leaving, entering, going, large, after, step, stages}
 use Rattle.spec_stages.specs.KeepLaws.{stages-allowed}
 use Rattle.spec_trees.specs.FindLaws.{put-first, put-later, found-cases}
 use Rattle.spec_stages.specs.UnwoundLaws.{unwound-leaves, unwound-one}
@@ -31,7 +31,7 @@ fits-of {x} h = rw (leb-yes (size x) treeMax (h .small), leb-yes (depth x) depth
 
 -- ---- match and unwind
 pub step-match : (us : List Tree) (c : Criterion) {x : Tree} → Allowed depthMax x → step us (match c) (going (x ∷ [])) ≡ going (cond (holds c x) (x ∷ []) [])
-unfolding step isGroup performed filter after leaving all
+unfolding step entering maybe performed filter after leaving all
 step-match us c {x} h = go (holds c x)
   where
     go : (b : Bool) → after (leaving (some (cond b (x ∷ []) []))) ≡ going (cond b (x ∷ []) [])
@@ -39,7 +39,7 @@ step-match us c {x} h = go (holds c x)
     go false = refl
 
 pub step-unwind : (us : List Tree) (p : Path) {x : Tree} → Allowed depthMax x → step us (unwind p) (going (x ∷ [])) ≡ going (unwound p x)
-unfolding step isGroup performed gather after
+unfolding step entering maybe performed gather after
 step-unwind us p {x} h = ap (λ l. after (leaving (some l))) (append-nil (unwound p x)) ∙ ap after (unwound-leaves p x h)
 
 -- what stands under a label of rising labels, put back, changes nothing
@@ -86,18 +86,18 @@ step-allowed us s x ys j g h e = stages-allowed us (s ∷ []) (x ∷ []) ys j (g
 
 -- ---- project
 pub step-project : (us : List Tree) (is : List Item) (x : Tree) {y : Tree} → projected is x ≡ some y → step us (project is) (going (x ∷ [])) ≡ going (y ∷ [])
-unfolding step isGroup performed after projected
+unfolding step entering maybe performed after projected
 step-project us is x e = ap after (one-leaves (projected is) x e (build-fits bareVoid _ void-fits e))
 
 pub project-none : (us : List Tree) (is : List Item) (x : Tree) → projected is x ≡ none → step us (project is) (going (x ∷ [])) ≡ large
-unfolding step isGroup performed after
+unfolding step entering maybe performed after
 project-none us is x e = ap after (none-leaves (projected is) x e)
 
 -- ---- lookup
 pub step-lookup : (us : List Tree) (q r : Route) (p : Path) (x : Tree) {y : Tree} → Allowed depthMax x → looked q r p us x ≡ some y → step us (lookup q r p) (going (x ∷ [])) ≡ going (y ∷ [])
-unfolding step isGroup performed after looked
+unfolding step entering maybe performed after looked
 step-lookup us q r p x h e = ap after (one-leaves (looked q r p us) x e (build-fits x _ (fits-of h) e))
 
 pub lookup-none : (us : List Tree) (q r : Route) (p : Path) (x : Tree) → looked q r p us x ≡ none → step us (lookup q r p) (going (x ∷ [])) ≡ large
-unfolding step isGroup performed after
+unfolding step entering maybe performed after
 lookup-none us q r p x e = ap after (none-leaves (looked q r p us) x e)

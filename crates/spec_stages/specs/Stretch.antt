@@ -6,7 +6,7 @@ use Rattle.spec_trees.specs.Limits.{arrayMax}
 use Rattle.spec_trees.specs.Tree.{Tree}
 use Rattle.spec_trees.specs.Size.{arraySize}
 use Rattle.spec_queries.specs.Query.{Stage}
-use Rattle.spec_stages.specs.Stages.{isGroup, State, going, large, long, stages}
+use Rattle.spec_stages.specs.Stages.{isGroup, tooLong, State, going, large, halted, stages}
 
 -- the stages before the next group
 unfoldable pub before : List Stage → List Stage
@@ -26,10 +26,11 @@ stretches (s ∷ ss) =
     let rest = stretches ss in
     cond (isGroup s) ([], (s ∷ rest .0) ∷ rest .1) (s ∷ rest .0, rest .1)
 
--- The stretches that are left, and what the one before them came to: a tree too large in it decides (8); else the
--- array that it yields, where it enters a group and is too long (9); else the next stretch
+-- The stretches that are left, and what the one before them came to: what stopped it decides, a total that does not
+-- fit (12) where it began with a group, or a tree too large (8); else the array that it yields, where it enters a group
+-- and is too long (9); else the next stretch
 unfoldable pub decided : List Tree → List (List Stage) → State → State
 decided us [] x = x
 decided us (s ∷ rs) large = large
-decided us (s ∷ rs) long = long
-decided us (s ∷ rs) (going ts) = cond (leb (arraySize ts) arrayMax) (decided us rs (stages us s (going ts))) long
+decided us (s ∷ rs) (halted h) = halted h
+decided us (s ∷ rs) (going ts) = cond (leb (arraySize ts) arrayMax) (decided us rs (stages us s (going ts))) (halted tooLong)

@@ -1,7 +1,7 @@
 -- A list of stages is its first stretch and the rest; a stretch goes tree by tree.
 use mathlib.Core.Path.{_≡_, refl, sym, ap, subst, _∙_}
 use mathlib.Core.List.{List, [], _∷_, _++_}
-use mathlib.Core.Bool.{Bool, true, false, cond, not, _&&_}
+use mathlib.Core.Bool.{Bool, true, false, cond}
 use mathlib.Core.Option.{Option, none, some}
 use Prim.Native.Nat.{ℕ, _≤_}
 use native.Mathlib.Omega.{arith}
@@ -12,11 +12,14 @@ use Rattle.spec_trees.specs.Lists.{All}
 use Rattle.spec_trees.specs.ListLaws.{All-right}
 use Rattle.spec_trees.specs.Tree.{Tree}
 use Rattle.spec_trees.specs.Size.{arraySize}
-use Rattle.spec_queries.specs.Query.{Stage}
+use Rattle.spec_trees.specs.Options.{maybe}
+use Rattle.spec_trees.specs.OptionLaws.{leb-yes}
+use Rattle.spec_queries.specs.Query.{Pair, Stage, match, unwind, project, group, lookup}
 use Rattle.spec_queries.specs.Rules.{OkS}
-use Rattle.spec_stages.specs.Stages.{isGroup, performed, leaving, after, State, going, large, long, step, stages}
+use Rattle.spec_stages.specs.Group.{grouped, totalsFit}
+use Rattle.spec_stages.specs.Stages.{isGroup, performed, leaving, after, Halt, tooLong, overflow, State, going, large, halted, entering, step, stages}
 use Rattle.spec_stages.specs.Join.{inTurn, GroupFree}
-use Rattle.spec_stages.specs.JoinLaws.{stages-each, stages-append}
+use Rattle.spec_stages.specs.JoinLaws.{step-going, stages-each, stages-append}
 use Rattle.spec_stages.specs.Stretch.{before, behind, stretches, decided}
 
 pub before-behind : (ss : List Stage) → before ss ++ behind ss ≡ ss
@@ -75,62 +78,68 @@ before-short ss = shorter ss .0
 pub behind-ok : (ss : List Stage) → All OkS ss → All OkS (behind ss)
 behind-ok ss h = All-right OkS (before ss) (behind ss) (subst (All OkS) (sym (before-behind ss)) h)
 
-pub stages-long : (us : List Tree) (ss : List Stage) → stages us ss long ≡ long
+pub stages-halted : (us : List Tree) (ss : List Stage) (h : Halt) → stages us ss (halted h) ≡ halted h
 unfolding stages step
-stages-long us [] = refl
-stages-long us (s ∷ ss) = stages-long us ss
+stages-halted us [] h = refl
+stages-halted us (s ∷ ss) h = stages-halted us ss h
 
--- ---- the first stretch with a fault decides, and in it 8 goes before 9
-after-not-long : (x : Option (List Tree)) → after x ≡ long → ⊥
+-- ---- the first stretch with a fault decides, and in it 8 goes before 9, and 12 before 8
+after-not-halted : (x : Option (List Tree)) (k : Halt) → after x ≡ halted k → ⊥
 unfolding after
-after-not-long none e = let y : _≡_ {A = ℕ} 0 1 = cc in omega arith
-after-not-long (some us) e = let y : _≡_ {A = ℕ} 0 1 = cc in omega arith
+after-not-halted none k e = let y : _≡_ {A = ℕ} 0 1 = cc in omega arith
+after-not-halted (some us) k e = let y : _≡_ {A = ℕ} 0 1 = cc in omega arith
 
--- a stage that is no group does not stop with 9, nor does a group whose array is short enough
-step-not-long : (us : List Tree) (s : Stage) (ts : List Tree) → (isGroup s && not (leb (arraySize ts) arrayMax)) ≡ false → step us s (going ts) ≡ long → ⊥
-unfolding step
-step-not-long us s ts h e =
-    after-not-long (leaving (performed us s ts)) (subst (λ c. cond c long (after (leaving (performed us s ts))) ≡ long) h e)
-
--- so inside a stretch no array is too long, however many trees there are between its stages
-pub stretch-not-long : (us : List Tree) (ss : List Stage) → GroupFree ss → (x : State) → (x ≡ long → ⊥) → stages us ss x ≡ long → ⊥
+-- inside a stretch, where no array enters a group, no run halts: no array is too long, however many trees there are
+-- between its stages
+pub stretch-not-halted : (us : List Tree) (ss : List Stage) → GroupFree ss → (k : Halt) (x : State) → (x ≡ halted k → ⊥) → stages us ss x ≡ halted k → ⊥
 unfolding stages step
-stretch-not-long us [] g x h e = h e
-stretch-not-long us (s ∷ ss) g large h e = stretch-not-long us ss (g .1) large h e
-stretch-not-long us (s ∷ ss) g long h e = h refl
-stretch-not-long us (s ∷ ss) g (going ts) h e =
-    let n : (isGroup s && not (leb (arraySize ts) arrayMax)) ≡ false = ap (λ c. c && not (leb (arraySize ts) arrayMax)) (g .0) in
-    stretch-not-long us ss (g .1) (step us s (going ts)) (step-not-long us s ts n) e
+stretch-not-halted us [] g k x h e = h e
+stretch-not-halted us (s ∷ ss) g k large h e = stretch-not-halted us ss (g .1) k large h e
+stretch-not-halted us (s ∷ ss) g k (halted i) h e = h (sym (stages-halted us ss i) ∙ e)
+stretch-not-halted us (s ∷ ss) g k (going ts) h e =
+    stretch-not-halted us ss (g .1) k (step us s (going ts)) (λ z. after-not-halted (leaving (performed us s ts)) k (sym (step-going us s ts (g .0)) ∙ z)) e
+
+-- a total of the group that opens a stretch does not fit: so the stretch ends, whatever its trees would be
+pub overflow-first : (us : List Tree) (ag gs : List Pair) (ss : List Stage) (ts : List Tree) → arraySize ts ≤ arrayMax → totalsFit ag (grouped gs ts) ≡ false
+    → stages us (group ag gs ∷ ss) (going ts) ≡ halted overflow
+unfolding stages step entering maybe
+overflow-first us ag gs ss ts b f = rw (leb-yes (arraySize ts) arrayMax b, f) (stages-halted us ss overflow)
 
 decided-large : (us : List Tree) (rs : List (List Stage)) → decided us rs large ≡ large
 unfolding decided
 decided-large us [] = refl
 decided-large us (r ∷ rs) = refl
 
-decided-long : (us : List Tree) (rs : List (List Stage)) → decided us rs long ≡ long
+decided-halted : (us : List Tree) (rs : List (List Stage)) (h : Halt) → decided us rs (halted h) ≡ halted h
 unfolding decided
-decided-long us [] = refl
-decided-long us (r ∷ rs) = refl
+decided-halted us [] h = refl
+decided-halted us (r ∷ rs) h = refl
+
+-- an array that is too long
+entering-long : (s : Stage) (ts : List Tree) → isGroup s ≡ true → leb (arraySize ts) arrayMax ≡ false → entering s ts ≡ some tooLong
+unfolding entering isGroup
+entering-long (match c) ts g e = let z : _≡_ {A = ℕ} 0 1 = cc in absurd (omega arith)
+entering-long (unwind p) ts g e = let z : _≡_ {A = ℕ} 0 1 = cc in absurd (omega arith)
+entering-long (project is) ts g e = let z : _≡_ {A = ℕ} 0 1 = cc in absurd (omega arith)
+entering-long (group ag gs) ts g e = rw e refl
+entering-long (lookup q r p) ts g e = let z : _≡_ {A = ℕ} 0 1 = cc in absurd (omega arith)
 
 -- a group, and what follows it: its array's length is tested before it
 decided-group : (us : List Tree) (s : Stage) → isGroup s ≡ true → (f : List Stage) (rs : List (List Stage)) (x : State)
     → decided us rs (stages us f (step us s x)) ≡ decided us ((s ∷ f) ∷ rs) x
-unfolding decided stages step
+unfolding decided stages step maybe
 decided-group us s g f rs large = ap (decided us rs) (stages-large us f) ∙ decided-large us rs
-decided-group us s g f rs long = ap (decided us rs) (stages-long us f) ∙ decided-long us rs
+decided-group us s g f rs (halted h) = ap (decided us rs) (stages-halted us f h) ∙ decided-halted us rs h
 decided-group us s g f rs (going ts) = go (leb (arraySize ts) arrayMax) refl
   where
-    rest : State
-    rest = after (leaving (performed us s ts))
+    entered : State
+    entered = decided us rs (stages us f (maybe (after (leaving (performed us s ts))) halted (entering s ts)))
 
-    -- by what the test says
-    entered : Bool → State
-    entered c = decided us rs (stages us f (cond (isGroup s && not c) long rest))
-
-    go : (c : Bool) → leb (arraySize ts) arrayMax ≡ c
-        → entered (leb (arraySize ts) arrayMax) ≡ cond (leb (arraySize ts) arrayMax) (entered (leb (arraySize ts) arrayMax)) long
-    go true e = rw e refl
-    go false e = rw (e, g) (ap (decided us rs) (stages-long us f) ∙ decided-long us rs)
+    go : (c : Bool) → leb (arraySize ts) arrayMax ≡ c → entered ≡ cond (leb (arraySize ts) arrayMax) entered (halted tooLong)
+    go true e = ap (λ c. cond c entered (halted tooLong)) (sym e)
+    go false e =
+        ap (λ h. decided us rs (stages us f (maybe (after (leaving (performed us s ts))) halted h))) (entering-long s ts g e)
+        ∙ ap (decided us rs) (stages-halted us f tooLong) ∙ decided-halted us rs tooLong ∙ ap (λ c. cond c entered (halted tooLong)) (sym e)
 
 -- the theorem: the plain run's stages come to what the stretches decide, one after another
 pub stretch-decides : (us : List Tree) (ss : List Stage) (x : State) → stages us ss x ≡ decided us (stretches ss .1) (stages us (stretches ss .0) x)

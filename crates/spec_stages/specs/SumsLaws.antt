@@ -1,5 +1,5 @@
 -- Laws of sums: over joined lists, over what is gathered, and in any order.
-use mathlib.Core.Path.{_≡_, refl, sym, ap, _∙_}
+use mathlib.Core.Path.{_≡_, refl, sym, ap, ap₂, _∙_}
 use mathlib.Core.List.{List, [], _∷_, _++_}
 use Rattle.spec_trees.specs.Lists.{gather}
 use Rattle.spec_stages.specs.Permutes.{Permutes, empty, behind, swapped, through}
@@ -28,3 +28,8 @@ module _ {M : Type 0} (k : Adding M) where
     unfolding added gather
     added-gather g [] = refl
     added-gather g (x ∷ xs) = added-append (g x) (gather g xs) ∙ ap (plus (added k f (g x))) (added-gather g xs)
+
+  pub added-same : {A : Type 0} (f g : A → M) → ((x : A) → f x ≡ g x) → (xs : List A) → added k f xs ≡ added k g xs
+  unfolding added
+  added-same f g h [] = refl
+  added-same f g h (x ∷ xs) = ap₂ plus (h x) (added-same f g h xs)

@@ -26,7 +26,7 @@ use Rattle.spec_trees.specs.FindLaws.{no-label, find-first, find-later, put-fir
 use Rattle.spec_queries.specs.Query.{Path, unwind}
 use Rattle.spec_queries.specs.Rules.{OkP}
 use Rattle.spec_stages.specs.Unwind.{holding, unwound}
-use Rattle.spec_stages.specs.Stages.{performed, leaving, isGroup, after, step, stages}
+use Rattle.spec_stages.specs.Stages.{performed, leaving, entering, after, step, stages}
 use Rattle.spec_stages.specs.KeepLaws.{stages-allowed}
 
 -- ---- an array put in the place of another
@@ -144,7 +144,7 @@ unfolding leaving
 unwound-leaves p t h = rw (all-fits t (unwound p t) h (unwound-fits p t (h .ok))) refl
 
 pub unwound-allowed : (p : Path) (t : Tree) → OkP p → Allowed depthMax t → AllowedA (unwound p t)
-unfolding stages step isGroup performed gather after
+unfolding stages step entering maybe performed gather after
 unwound-allowed p t g h =
     stages-allowed [] (unwind p ∷ []) (t ∷ []) (unwound p t) tt (g, tt) (h, tt)
     (ap (λ l. after (leaving (some l))) (append-nil (unwound p t)) ∙ ap after (unwound-leaves p t h))

@@ -63,6 +63,10 @@ pub All-imply : {A : Type 0} (P Q : A → Type 0) → ((x : A) → P x → Q x) 
 All-imply P Q h [] o = tt
 All-imply P Q h (x ∷ xs) o = (h x (o .0), All-imply P Q h xs (o .1))
 
+pub All-both : {A : Type 0} (P Q : A → Type 0) (xs : List A) → All P xs → All Q xs → All (λ x. P x × Q x) xs
+All-both P Q [] o k = tt
+All-both P Q (x ∷ xs) o k = ((o .0, k .0), All-both P Q xs (o .1) (k .1))
+
 pub All-map : {A B : Type 0} (P : A → Type 0) (Q : B → Type 0) (f : A → B) → ((x : A) → P x → Q (f x)) → (xs : List A) → All P xs → All Q (map f xs)
 All-map P Q f h [] o = tt
 All-map P Q f h (x ∷ xs) o = (h x (o .0), All-map P Q f h xs (o .1))

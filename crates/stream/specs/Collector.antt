@@ -7,7 +7,7 @@ use lib.ListN.{length, take, drop}
 use Rattle.spec_trees.specs.Limits.{treeMax, workMin}
 use Rattle.areas.specs.Area.{Is}
 use Rattle.queries.specs.Places.{arrayTrees}
-use Rattle.spec_stages.specs.Stages.{State, going, large, long}
+use Rattle.spec_stages.specs.Stages.{State, going, large, halted}
 use Rattle.stream.specs.declared.collector.Collector.{Collector}
 use Rattle.stream.specs.declared.collector.Collector.the-variants.{Len, Over, Large}
 use Rattle.map.specs.Map.{treesMax, collectorAt, tailMin}
@@ -37,7 +37,7 @@ Open Large = ⊥
 -- said
 unfoldable pub Fed : List ℕ → Collector → List ℕ → State → Type 0
 Fed v r xs large = r ≡ Large
-Fed v r xs long = ⊥
+Fed v r xs (halted h) = ⊥
 Fed v r xs (going ys) = Collects v r (xs ++ arrayTrees ys)
 
 -- from the area t with the collector s to the area v with the collector r

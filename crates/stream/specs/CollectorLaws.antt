@@ -15,7 +15,7 @@ use Rattle.spec_trees.specs.Bytes.{bytes, treeFs}
 use Rattle.spec_queries.specs.Query.{Stage}
 use Rattle.queries.specs.Places.{arrayTrees}
 use Rattle.paths.specs.ComparedLaws.{trees-append}
-use Rattle.spec_stages.specs.Stages.{State, going, large, long, stages}
+use Rattle.spec_stages.specs.Stages.{State, going, large, halted, stages}
 use Rattle.spec_stages.specs.Join.{beside, GroupFree}
 use Rattle.spec_stages.specs.JoinLaws.{stages-join}
 use Rattle.stream.specs.declared.collector.Collector.{Collector}
@@ -36,7 +36,7 @@ collects-ends w v Large xs e h = h
 fed-ends : (w v : List ℕ) (r : Collector) (xs : List ℕ) (st : State) → ends v ≡ ends w → Fed w r xs st → Fed v r xs st
 unfolding Fed
 fed-ends w v r xs large e h = h
-fed-ends w v r xs long e h = h
+fed-ends w v r xs (halted i) e h = h
 fed-ends w v r xs (going ys) e h = collects-ends w v r (xs ++ arrayTrees ys) e h
 
 pub feeds-move : {t t2 : List ℕ} {s : Collector} {v v2 : List ℕ} {r : Collector} {st : State} → ends t2 ≡ ends t → ends v2 ≡ ends v → Feeds t2 s v2 r st → Feeds t s v r st
@@ -52,17 +52,17 @@ never-collects t Large ys o h = h
 joined : {t2 v : List ℕ} {s2 r : Collector} (xs : List ℕ) (a b : State) → isLarge s2 ≡ false → Fed t2 s2 xs a → Feeds t2 s2 v r b → Fed v r xs (beside a b)
 unfolding Fed beside isLarge
 joined {s2 = s2} xs large b o f k = let z : isLarge s2 ≡ true = ap isLarge f in let y : _≡_ {A = ℕ} 0 1 = cc in absurd (omega arith)
-joined xs long b o f k = absurd f
+joined xs (halted i) b o f k = absurd f
 joined xs (going a) large o f k = k .fed (xs ++ arrayTrees a) f
-joined xs (going a) long o f k = k .fed (xs ++ arrayTrees a) f
+joined xs (going a) (halted i) o f k = k .fed (xs ++ arrayTrees a) f
 joined {v = v} {r = r} xs (going a) (going b) o f k =
     subst (λ (l : List ℕ). Collects v r l) (append-assoc xs (arrayTrees a) (arrayTrees b) ∙ ap (λ (l : List ℕ). xs ++ l) (sym (trees-append a b))) (k .fed (xs ++ arrayTrees a) f)
 
-halted : (t2 v : List ℕ) (s2 : Collector) (xs : List ℕ) (a b : State) → isLarge s2 ≡ true → Fed t2 s2 xs a → Fed v Large xs (beside a b)
+stopped : (t2 v : List ℕ) (s2 : Collector) (xs : List ℕ) (a b : State) → isLarge s2 ≡ true → Fed t2 s2 xs a → Fed v Large xs (beside a b)
 unfolding Fed beside
-halted t2 v s2 xs large b o f = refl
-halted t2 v s2 xs long b o f = absurd f
-halted t2 v s2 xs (going a) b o f = absurd (never-collects t2 s2 (xs ++ arrayTrees a) o f)
+stopped t2 v s2 xs large b o f = refl
+stopped t2 v s2 xs (halted i) b o f = absurd f
+stopped t2 v s2 xs (going a) b o f = absurd (never-collects t2 s2 (xs ++ arrayTrees a) o f)
 
 -- a and then b
 module _ {t t2 : List ℕ} {s s2 : Collector} (v : List ℕ) (a b : State) (p : Feeds t s t2 s2 a) where
@@ -71,7 +71,7 @@ module _ {t t2 : List ℕ} {s s2 : Collector} (v : List ℕ) (a b : State) (p : 
 
   -- a tree too large ends the run at once
   pub feeds-halt : isLarge s2 ≡ true → Feeds t s v Large (beside a b)
-  feeds-halt o = record { fed = λ xs h. halted t2 v s2 xs a b o (p .fed xs h) }
+  feeds-halt o = record { fed = λ xs h. stopped t2 v s2 xs a b o (p .fed xs h) }
 
 -- some trees and then others go through a stretch
 module _ {t t2 : List ℕ} {s s2 : Collector} (v : List ℕ) (us : List Tree) (ss : List Stage) (g : GroupFree ss) (a b : List Tree) (p : Feeds t s t2 s2 (stages us ss (going a))) where
@@ -108,7 +108,7 @@ collects-open v Large xs h = h
 fed-open : (v : List ℕ) (r : Collector) (xs : List ℕ) (st : State) → isLarge r ≡ false → Fed v r xs st → Open r
 unfolding Fed isLarge
 fed-open v r xs large o f = let z : isLarge r ≡ true = ap isLarge f in let y : _≡_ {A = ℕ} 0 1 = cc in absurd (omega arith)
-fed-open v r xs long o f = absurd f
+fed-open v r xs (halted i) o f = absurd f
 fed-open v r xs (going ys) o f = collects-open v r (xs ++ arrayTrees ys) f
 
 pub feeds-open : {t v : List ℕ} {s r : Collector} {st : State} → endPart ≤ length t → Open s → Feeds t s v r st → isLarge r ≡ false → Open r

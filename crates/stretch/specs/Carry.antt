@@ -4,24 +4,19 @@ use mathlib.Core.Path.{_≡_}
 use mathlib.Core.List.{List, [], _++_}
 use Prim.Native.Nat.{ℕ, _+_, _≤_, _<_}
 use lib.ListN.{length, take}
-use Rattle.spec_trees.specs.Limits.{positionsMin}
 use Rattle.spec_trees.specs.Lists.{All}
 use Rattle.areas.specs.Area.{Is}
 use Rattle.queries.specs.Places.{arrayTrees}
-use Rattle.spec_stages.specs.Stages.{State, going, large, long}
+use Rattle.spec_stages.specs.Stages.{State, going, large, halted}
 use Rattle.spec_stages.specs.Positions.{Borne, unmarked}
 use Rattle.map.specs.Map.{treesMax, lentPart, collectedAt}
-use Rattle.positions.specs.Bearing.{Bears, Standing, Marks}
+use Rattle.positions.specs.Bearing.{Position, Bears, Standing, Marks}
 use Rattle.stream.specs.declared.collector.Collector.{Collector}
 use Rattle.stream.specs.declared.collector.Collector.the-variants.{Len, Over, Large}
 
 -- what is lent to the stages
 abbrev pub lentArea : List ℕ → List ℕ
 lentArea w = take lentPart w
-
--- the trees of an array bear 1 to 2,730
-abbrev pub Position : ℕ → Type 0
-Position i = (1 ≤ i) × (i ≤ positionsMin)
 
 abbrev pub Positions : List Borne → Type 0
 Positions bs = All (λ b. Position (b .position)) bs
@@ -36,7 +31,7 @@ Holds w Large bs = ⊥
 -- after cs it has taken bs, which are the trees of the state; or a tree was too large, and nothing else is said
 unfoldable pub Taken : List ℕ → Collector → List Borne → State → List Borne → Type 0
 Taken v r cs large bs = r ≡ Large
-Taken v r cs long bs = ⊥
+Taken v r cs (halted h) bs = ⊥
 Taken v r cs (going ts) bs = (unmarked bs ≡ ts) × Holds v r (cs ++ bs)
 
 -- from the area w with the collector s to the area v with the collector r

@@ -14,7 +14,7 @@ use Rattle.areas.specs.AreaLaws.{take-less, is-part, is-keep, is-right}
 use Rattle.spec_queries.specs.Query.{Stage}
 use Rattle.queries.specs.Places.{arrayTrees}
 use Rattle.paths.specs.ComparedLaws.{is-none, trees-append}
-use Rattle.spec_stages.specs.Stages.{State, going, large, long, stages}
+use Rattle.spec_stages.specs.Stages.{State, going, large, halted, stages}
 use Rattle.spec_stages.specs.Join.{beside, GroupFree}
 use Rattle.spec_stages.specs.StretchLaws.{stages-none}
 use Rattle.spec_stages.specs.Positions.{Borne, unmarked, marked, carried}
@@ -84,7 +84,7 @@ clash {s = s} o e = let z : isLarge s ≡ true = ap isLarge e in let y : _≡_ {
 pub carries-holds : {w v : List ℕ} {s r : Collector} (st : State) (bs cs : List Borne) → Carries w s v r st bs → isLarge r ≡ false → Holds w s cs → Holds v r (cs ++ bs)
 unfolding Taken
 carries-holds large bs cs k o h = clash o (k .taken cs h)
-carries-holds long bs cs k o h = absurd (k .taken cs h)
+carries-holds (halted i) bs cs k o h = absurd (k .taken cs h)
 carries-holds (going ts) bs cs k o h = k .taken cs h .1
 
 -- ---- none, one part and then another, and a tree that was too large
@@ -99,9 +99,9 @@ carries-none w s us ss g =
 taken-both : {u v : List ℕ} {t r : Collector} (a b : State) (xs ys cs : List Borne) → isLarge t ≡ false → Taken u t cs a xs → Carries u t v r b ys → Taken v r cs (beside a b) (xs ++ ys)
 unfolding Taken beside
 taken-both large b xs ys cs o f k = clash o f
-taken-both long b xs ys cs o f k = absurd f
+taken-both (halted i) b xs ys cs o f k = absurd f
 taken-both (going a) large xs ys cs o f k = k .taken (cs ++ xs) (f .1)
-taken-both (going a) long xs ys cs o f k = k .taken (cs ++ xs) (f .1)
+taken-both (going a) (halted i) xs ys cs o f k = k .taken (cs ++ xs) (f .1)
 taken-both {v = v} {r = r} (going a) (going b) xs ys cs o f k =
     let h = k .taken (cs ++ xs) (f .1) in
     (map-append (λ x. x .tree) xs ys ∙ ap₂ _++_ (f .0) (h .0), subst (Holds v r) (append-assoc cs xs ys) (h .1))
@@ -110,16 +110,16 @@ pub carries-beside : {w u v : List ℕ} {s t r : Collector} (a b : State) (xs ys
     → Carries w s v r (beside a b) (xs ++ ys)
 carries-beside a b xs ys p o k = record { taken = λ cs h. taken-both a b xs ys cs o (p .taken cs h) k }
 
-halted : (u v : List ℕ) (t : Collector) (a b : State) (bs cs : List Borne) (zs : List ℕ) → isLarge t ≡ true → Fed u t zs a → Taken v Large cs (beside a b) bs
+stopped : (u v : List ℕ) (t : Collector) (a b : State) (bs cs : List Borne) (zs : List ℕ) → isLarge t ≡ true → Fed u t zs a → Taken v Large cs (beside a b) bs
 unfolding Fed Taken beside
-halted u v t large b bs cs zs o f = refl
-halted u v t long b bs cs zs o f = absurd f
-halted u v t (going a) b bs cs zs o f = absurd (never-collects u t (zs ++ arrayTrees a) o f)
+stopped u v t large b bs cs zs o f = refl
+stopped u v t (halted i) b bs cs zs o f = absurd f
+stopped u v t (going a) b bs cs zs o f = absurd (never-collects u t (zs ++ arrayTrees a) o f)
 
 pub carries-halt : (w v : List ℕ) {u : List ℕ} {s t : Collector} (a b : State) (bs : List Borne) → length w ≡ workMin → Feeds (lentArea w) s u t a → isLarge t ≡ true
     → Carries w s v Large (beside a b) bs
 carries-halt w v {u} {s} {t} a b bs l p o =
-    record { taken = λ cs h. halted u v t a b bs cs (arrayTrees (unmarked cs)) o (p .fed (arrayTrees (unmarked cs)) (holds-collects w s cs l h)) }
+    record { taken = λ cs h. stopped u v t a b bs cs (arrayTrees (unmarked cs)) o (p .fed (arrayTrees (unmarked cs)) (holds-collects w s cs l h)) }
 
 -- ---- fed, and then marked
 -- the trees that were fed stand behind those that were held
@@ -143,7 +143,7 @@ module _ (w u : List ℕ) {s r : Collector} {st : State} (lw : length w ≡ work
     where
       go : (x : State) → Fed (lentArea u) r (arrayTrees (unmarked cs)) x → Standing u a b
       go large k = clash {s = Len b} refl (sym z ∙ k)
-      go long k = absurd k
+      go (halted i) k = absurd k
       go (going ts) k =
           let d = stood cs a b ts (subst (λ c. Holds w c cs) y h) (subst (λ c. Fed (lentArea u) c (arrayTrees (unmarked cs)) (going ts)) z k) in
           record { size = lu; trees = ts; trees-are = stood-from ts d; short = d .short }
@@ -175,7 +175,7 @@ module _ (w u : List ℕ) {s r : Collector} {st : State} (lw : length w ≡ work
         → Fed (lentArea u) r (arrayTrees (unmarked cs)) x → Taken v r cs x bs
     unfolding Fed Taken
     taken-fed cs large bs e h y = y
-    taken-fed cs long bs e h y = y
+    taken-fed cs (halted i) bs e h y = y
     taken-fed cs (going ts) bs e h y =
         let z = e ts refl in
         (ap unmarked z ∙ marked-trees k ts, subst (λ l. Holds v r (cs ++ l)) (sym z) (taken-one cs ts s r refl refl h y))

@@ -17,7 +17,7 @@ use Rattle.spec_queries.specs.Rules.{OkS, OkQ}
 use Rattle.queries.specs.TreesLaws.{array-reads}
 use Rattle.queries.specs.Places.{ReadsQuery}
 use Rattle.areas.specs.declared.span.Span.{Span}
-use Rattle.spec_stages.specs.Stages.{State, going, large, long, stages}
+use Rattle.spec_stages.specs.Stages.{State, going, large, halted, stages}
 use Rattle.spec_stages.specs.KeepLaws.{stages-allowed}
 use Rattle.stream.specs.declared.collector.Collector.{Collector}
 use Rattle.spec_stages.specs.Stretch.{before, behind}
@@ -55,7 +55,7 @@ module _ {q : List ℕ} {x : Span} (reads : ReadsQuery q x) where
       allows ss ts us a b c (going ys) y =
           stages-allowed us (before ss) ts ys c (All-left OkS (before ss) (behind ss) (subst (All OkS) (sym (before-behind ss)) a)) b y
       allows ss ts us a b c large y = tt
-      allows ss ts us a b c long y = tt
+      allows ss ts us a b c (halted h) y = tt
 
       positions-of : (ss : List Stage) (ts us : List Tree) → Within ts → Positions (carried us (before ss) (numbered 1 ts))
       positions-of ss ts us o =

@@ -13,7 +13,7 @@ use Rattle.spec_queries.specs.Query.{Stage}
 use Rattle.spec_queries.specs.Bytes.{queryBytes}
 use Rattle.spec_queries.specs.Rules.{OkQ}
 use Rattle.queries.specs.Places.{arrayTrees}
-use Rattle.spec_stages.specs.Stages.{State, going, large, long, stages}
+use Rattle.spec_stages.specs.Stages.{tooLong, overflow, State, going, large, halted, stages}
 use Rattle.spec_stages.specs.Positions.{Borne, unmarked, numbered, carried}
 use Rattle.map.specs.Map.{collectedAt}
 use Rattle.positions.specs.Bearing.{Bears}
@@ -38,7 +38,8 @@ pub record EndedIs (w : List ℕ) (r : Ended) (st : State) (bs : List Borne) : T
   pub held : (n : ℕ) → r ≡ Ended.Held n → HeldIs w n st bs
   pub full : r ≡ Ended.Full → FullIs st
   pub large-is : r ≡ Ended.Large → st ≡ large
-  pub long-is : r ≡ Ended.Long → st ≡ long
+  pub long-is : r ≡ Ended.Long → st ≡ halted tooLong
+  pub overflow-is : r ≡ Ended.Overflow → st ≡ halted overflow
 
 -- ---- all stretches
 -- the byte forms of an admitted query, and of an input and a joined array within the limits

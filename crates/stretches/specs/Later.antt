@@ -1,6 +1,7 @@
 -- What the functions of the later stretches ask of the areas, and what they do.
 use mathlib.Core.Path.{_≡_}
 use mathlib.Core.List.{List}
+use mathlib.Core.Bool.{Bool, true, false}
 use Prim.Native.Nat.{ℕ, _≤_}
 use lib.ListN.{length}
 use Rattle.spec_trees.specs.Limits.{stagesMax, workMin}
@@ -8,8 +9,8 @@ use Rattle.spec_trees.specs.Tree.{Tree}
 use Rattle.spec_trees.specs.Within.{AllowedA}
 use Rattle.spec_queries.specs.Query.{Pair, Stage, group}
 use Rattle.queries.specs.Places.{Pairs}
-use Rattle.spec_stages.specs.Group.{grouped}
-use Rattle.spec_stages.specs.Stages.{State, going, large, long, stages}
+use Rattle.spec_stages.specs.Group.{grouped, totalsFit}
+use Rattle.spec_stages.specs.Stages.{State, going, large, halted, stages}
 use Rattle.stream.specs.declared.collector.Collector.{Collector}
 use Rattle.stream.specs.declared.collector.Collector.the-variants.{Len}
 use Rattle.spec_stages.specs.Stretch.{before, behind}
@@ -17,6 +18,7 @@ use Rattle.spec_stages.specs.Positions.{Borne, unmarked, carry, carried}
 use Rattle.map.specs.Map.{lentPart}
 use Rattle.stream.specs.Feed.{Planned}
 use Rattle.stretches.specs.declared.ended.Ended.{Ended}
+use Rattle.stretches.specs.declared.later.Grouped.{Grouped}
 use Rattle.stretch.specs.Carry.{Positions, Holds, Shows}
 use Rattle.stretches.specs.Ended.{EndedIs}
 use Rattle.areas.specs.declared.span.Span.{Span}
@@ -27,7 +29,7 @@ use Rattle.group_stretch.specs.Group.{GroupPlan, through}
 abbrev pub Allows : State → Type 0
 Allows (going ts) = AllowedA ts
 Allows large = Unit {0}
-Allows long = Unit {0}
+Allows (halted h) = Unit {0}
 
 -- what the answer says when no group is left
 abbrev pub LastPost : Collector → Ended → Type 0
@@ -42,11 +44,16 @@ pub record HeldReady (w : List ℕ) (n : ℕ) (q : List ℕ) (at : StretchAt) (j
   pub holds : Holds w (Len n) borne
   pub size : length w ≡ workMin
 
+-- where the totals fit, what leaves the stretch was collected; else that is told
+pub record GroupedIs (v : List ℕ) (fit : Bool) (st : State) (bs : List Borne) (r : Grouped) : Type 0 where
+  pub collected : (c : Collector) → r ≡ Grouped.Collected c → (fit ≡ true) × Shows v c st bs
+  pub overflow : r ≡ Grouped.Overflow → fit ≡ false
+
 -- a class's tree bears the position of its first member
-abbrev pub HeldPost : (w v : List ℕ) (n : ℕ) (q : List ℕ) (at : StretchAt) (j : List ℕ) → Collector → Type 0
+abbrev pub HeldPost : (w v : List ℕ) (n : ℕ) (q : List ℕ) (at : StretchAt) (j : List ℕ) → Grouped → Type 0
 HeldPost w v n q at j r = (ags gs : List Pair) (bs : List Borne) (ss : List Stage) (us : List Tree) → Pairs q (at .group) ags gs → AllowedA (unmarked bs)
     → Positions bs → Holds w (Len n) bs → Planned q (at .next) j ss us
-    → Shows v r (through us ss ags gs (grouped gs (unmarked bs))) (carried us (before ss) (carry us (group ags gs) bs))
+    → GroupedIs v (totalsFit ags (grouped gs (unmarked bs))) (through us ss ags gs (grouped gs (unmarked bs))) (carried us (before ss) (carry us (group ags gs) bs)) r
 
 -- ---- the stretches from the next group on
 pub record LaterReady (w q : List ℕ) (stagesAt : Span) (j : List ℕ) (s : Collector) : Type 0 where

@@ -45,9 +45,9 @@ pub extern "C" fn tquery_run<'a>(
     packed(run(query, input, joined, work, result, positions))
 }
 
-/// Groups two arrays, joined, again by a query that is one group alone whose destinations are single, distinct labels:
-/// the number times 2 to the power 32, and the length. The first three areas are only read; what the other two hold
-/// afterwards is the plain regrouping's, as the number and the length are.
+/// Groups two arrays, joined, again by a query that is one group alone, without totals, whose destinations are single,
+/// distinct labels: the number times 2 to the power 32, and the length. The first three areas are only read; what the
+/// other two hold afterwards is the plain regrouping's, as the number and the length are.
 #[no_mangle]
 pub extern "C" fn tquery_regroup<'a>(
     query: &'a [u8],

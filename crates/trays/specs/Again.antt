@@ -3,8 +3,7 @@ use mathlib.Core.List.{List, _++_, map}
 use Prim.Native.Nat.{ℕ, _+_, _-_, _≤_}
 use lib.ListN.{length}
 use Rattle.spec_trees.specs.Limits.{workMin}
-use Rattle.spec_queries.specs.Query.{Path, Pair}
-use Rattle.spec_queries.specs.Decode.{pairOf}
+use Rattle.spec_queries.specs.Query.{Path, Pair, pairOf}
 use Rattle.spec_queries.specs.Again.{again}
 use Rattle.areas.specs.Area.{IsAt, Wrote}
 use Rattle.areas.specs.declared.area.Out.the-variants.{At}

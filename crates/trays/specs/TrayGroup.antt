@@ -1,5 +1,5 @@
--- What the search for a tray group asks of a query's bytes, and what it says of them: the destinations are tested one
--- after another, each against those behind it.
+-- What the search for a tray group asks of a query's bytes, and what it says of them: the aggregates are looked through
+-- for a total, and the destinations are tested one after another, each against those behind it.
 use mathlib.Core.Path.{_≡_}
 use mathlib.Core.List.{List, [], _∷_, _++_}
 use mathlib.Core.Bool.{Bool, true, false, not, _&&_}
@@ -9,7 +9,7 @@ use Rattle.spec_trees.specs.Lists.{all, All}
 use Rattle.spec_queries.specs.Query.{Path, Pair, Stage, group}
 use Rattle.spec_queries.specs.Bytes.{queryBytes}
 use Rattle.spec_queries.specs.Rules.{OkP⁺, OkPair, OkQ}
-use Rattle.spec_queries.specs.Again.{targets, leads, distinctTargets, regrouping}
+use Rattle.spec_queries.specs.Again.{targets, leads, distinctTargets, noTotals, regroups, regrouping}
 use Rattle.areas.specs.Area.{IsAt}
 use Rattle.areas.specs.declared.span.Span.{Span}
 use Rattle.queries.specs.Places.{pathBytes, pairsBytes, OkAt, Pairs}
@@ -54,6 +54,10 @@ abbrev pub ApartIs : (q : List ℕ) (pairsAt othersAt : Span) → Bool → Type 
 ApartIs q pairsAt othersAt r = (ps qs : List Pair) → All OkPair ps → IsAt q pairsAt (pairsBytes ps) → All OkPair qs → IsAt q othersAt (pairsBytes qs)
     → r ≡ apart ps qs
 
+-- whether none is a total, also of pairs that the rules do not allow
+abbrev pub NoTotalsIs : (q : List ℕ) (pairsAt : Span) → Bool → Type 0
+NoTotalsIs q pairsAt r = (ps : List Pair) → IsAt q pairsAt (pairsBytes ps) → r ≡ noTotals ps
+
 -- ---- a group
 -- allowed pairs stand at its places
 pub record GroupStands (q : List ℕ) (at : GroupAt) : Type 0 where
@@ -64,6 +68,10 @@ pub record GroupStands (q : List ℕ) (at : GroupAt) : Type 0 where
 -- whether its destinations are single, distinct labels
 abbrev pub DistinctIs : (q : List ℕ) → GroupAt → Bool → Type 0
 DistinctIs q at r = (ag gs : List Pair) → Pairs q at ag gs → r ≡ distinctTargets ag gs
+
+-- whether its tray results can be grouped again
+abbrev pub RegroupsIs : (q : List ℕ) → GroupAt → Bool → Type 0
+RegroupsIs q at r = (ag gs : List Pair) → Pairs q at ag gs → r ≡ regroups ag gs
 
 -- ---- a query
 -- a stage as a group
@@ -85,7 +93,7 @@ pub record IsTrayGroup (q : List ℕ) (ss : List Stage) (at : GroupAt) : Type 0 
   pub aggregates : List Pair
   pub grouping : List Pair
   pub same : ss ≡ group aggregates grouping ∷ []
-  pub distinct : distinctTargets aggregates grouping ≡ true
+  pub again : regroups aggregates grouping ≡ true
   pub pairs : Pairs q at aggregates grouping
 
 pub record TrayGroupOf (q : List ℕ) (ss : List Stage) (r : TrayGroup) : Type 0 where

@@ -1,4 +1,4 @@
--- Laws of the search for a tray group: destination by destination, and the query that is one such group alone.
+-- Laws of the search for a tray group: destination by destination, no total, and the query that is one such group alone.
 use mathlib.Core.Path.{_≡_, refl, sym, ap, subst, _∙_}
 use mathlib.Core.List.{List, [], _∷_, _++_}
 use mathlib.Core.Bool.{Bool, true, false, not, _&&_}
@@ -14,12 +14,12 @@ use Rattle.spec_trees.specs.Bytes.{bytes}
 use Rattle.spec_queries.specs.Query.{Path, Pair, Stage, match, unwind, project, group, lookup}
 use Rattle.spec_queries.specs.Bytes.{pairF, stageF, queryBytes}
 use Rattle.spec_queries.specs.Rules.{OkP⁺, OkPair, OkS, OkQ}
-use Rattle.spec_queries.specs.Again.{leads, regrouped, regrouping}
+use Rattle.spec_queries.specs.Again.{leads, distinctTargets, noTotals, regroups, regrouped, regrouping}
 use Rattle.areas.specs.Area.{Is, IsAt, fieldEnd, span}
 use Rattle.areas.specs.declared.span.Span.{Span}
 use Rattle.format.specs.Stand.{Holds}
-use Rattle.queries.specs.Places.{pathBytes, pairBytes, pairsBytes, stageBytes, stagesBytes, HoldsOk, OkAt, PairIs, ReadsPair, ReadsStage, ReadsQuery, Pairs}
-use Rattle.queries.specs.PartLaws.{list-parts, list-none}
+use Rattle.queries.specs.Places.{pathBytes, pairBytes, pairsBytes, stageBytes, stagesBytes, HoldsAt, HoldsOk, OkAt, PairIs, ReadsPair, TotalIs, ReadsStage, ReadsQuery, Pairs}
+use Rattle.queries.specs.PartLaws.{list-parts, list-none, holds-of}
 use Rattle.queries.specs.Steps.{stepCount, stepAt, StepInside}
 use Rattle.queries.specs.StepLaws.{steps-are, step-is, step-inside, path-room}
 use Rattle.queries.specs.declared.item.PairAt.{PairAt}
@@ -27,7 +27,7 @@ use Rattle.queries.specs.declared.stage.GroupAt.{GroupAt}
 use Rattle.queries.specs.declared.stage.StageAt.{StageAt}
 use Rattle.paths.specs.ComparedLaws.{is-none}
 use Rattle.trays.specs.declared.tray_group.TrayGroup.{TrayGroup}
-use Rattle.trays.specs.TrayGroup.{noneLeads, alone, apart, groupOf, NoneLeadsIs, AloneIs, ApartIs, GroupStands, DistinctIs, QueryForm, IsTrayGroup, TrayGroupIs}
+use Rattle.trays.specs.TrayGroup.{noneLeads, alone, apart, groupOf, NoneLeadsIs, AloneIs, ApartIs, NoTotalsIs, GroupStands, DistinctIs, RegroupsIs, QueryForm, IsTrayGroup, TrayGroupIs}
 use Rattle.trays.specs.TargetLaws.{leads-both, distinct-parts}
 
 -- ---- the destination of a pair
@@ -139,6 +139,27 @@ module _ (q : List ℕ) (at e : ℕ) (o : Span) where
         let d = subst (All OkPair) (c .same) op in
         j (c .rest) qs (d .1) (c .rest-is) oq hq ∙ sym (apart-first ps qs op hp oq hq ∙ ap (λ b. b && apart (c .rest) qs) y)
 
+-- ---- no total
+module _ (q : List ℕ) (at e : ℕ) where
+  pub totals-end : at ≡ e → NoTotalsIs q (span at e) true
+  unfolding noTotals all
+  totals-end z ps h = sym (ap noTotals (list-none pairF ps z h))
+
+  module _ {m : ℕ} {b : Bool} (n : at ≡ e → ⊥) (z : m ≡ fieldEnd q at) (i : TotalIs q (span at m) b) where
+    totals-first : (ps : List Pair) (h : Is q at e (pairsBytes ps)) → let c = list-parts pairF ps z n h in noTotals ps ≡ not b && noTotals (c .rest)
+    unfolding noTotals all
+    totals-first ps h =
+        let c = list-parts pairF ps z n h in
+        ap noTotals (c .same) ∙ ap (λ t. not t && noTotals (c .rest)) (sym (i (c .first) (c .first-is)))
+
+    pub totals-found : b ≡ true → NoTotalsIs q (span at e) false
+    totals-found y ps h = let c = list-parts pairF ps z n h in sym (totals-first ps h ∙ ap (λ t. not t && noTotals (c .rest)) y)
+
+    pub totals-next : b ≡ false → (r : Bool) → NoTotalsIs q (span m e) r → NoTotalsIs q (span at e) r
+    totals-next y r j ps h =
+        let c = list-parts pairF ps z n h in
+        j (c .rest) (c .rest-is) ∙ sym (totals-first ps h ∙ ap (λ t. not t && noTotals (c .rest)) y)
+
 -- ---- a group
 module _ {q : List ℕ} {at : GroupAt} where
   pub group-aggregates : GroupStands q at → OkAt (All OkPair) pairsBytes q (at .aggregates)
@@ -146,6 +167,10 @@ module _ {q : List ℕ} {at : GroupAt} where
 
   pub group-keys : GroupStands q at → OkAt (All OkPair) pairsBytes q (at .keys)
   group-keys h = record { value = h .grouping; allowed = h .pairs .grouping-ok .0; value-is = h .pairs .grouping-is }
+
+  -- pairs stand at both places
+  pub group-held : GroupStands q at → HoldsAt pairsBytes q (at .aggregates) × HoldsAt pairsBytes q (at .keys)
+  group-held h = (holds-of (group-aggregates h), holds-of (group-keys h))
 
   -- no pairs stand at the end of the key
   no-pairs : (h : GroupStands q at) → Is q (at .keys .to) (at .keys .to) (pairsBytes [])
@@ -163,6 +188,16 @@ module _ {q : List ℕ} {at : GroupAt} where
   distinct-is g i z j ag gs h =
       j gs [] (h .grouping-ok .0) (h .grouping-is) tt (no-pairs g)
       ∙ sym (distinct-parts ag gs ∙ ap (λ b. b && apart gs []) (sym (i ag gs (h .aggregates-ok .0) (h .aggregates-is) (h .grouping-ok .0) (h .grouping-is)) ∙ z))
+
+-- its tray results can be grouped again: no aggregate is a total, and the destinations are single and distinct
+module _ (q : List ℕ) (at : GroupAt) {r : Bool} (i : NoTotalsIs q (at .aggregates) r) where
+  pub regroups-not : r ≡ false → RegroupsIs q at false
+  unfolding regroups
+  regroups-not z ag gs h = sym (ap (λ b. b && distinctTargets ag gs) (sym (i ag (h .aggregates-is)) ∙ z))
+
+  pub regroups-is : r ≡ true → {u : Bool} → DistinctIs q at u → RegroupsIs q at u
+  unfolding regroups
+  regroups-is z j ag gs h = j ag gs h ∙ sym (ap (λ b. b && distinctTargets ag gs) (sym (i ag (h .aggregates-is)) ∙ z))
 
 -- ---- a query
 other-only : {q : List ℕ} → ((ss : List Stage) → q ≡ queryBytes ss → OkQ ss → regrouping ss ≡ none) → TrayGroupIs q TrayGroup.Other
@@ -257,16 +292,16 @@ module _ {q : List ℕ} {x : Span} (reads : ReadsQuery q x) where
           pub query-group : QueryForm q → GroupStands q at
           query-group h = let c = stage-group (h .query) (h .query-is) (h .query-ok) in record { aggregates = c .0; grouping = c .1; pairs = c .3 }
 
-          pub query-such : {b : Bool} → DistinctIs q at b → b ≡ true → TrayGroupIs q (TrayGroup.At at)
+          pub query-such : {b : Bool} → RegroupsIs q at b → b ≡ true → TrayGroupIs q (TrayGroup.At at)
           query-such i y ss u o =
               let c = stage-group ss u o in
-              let t : IsTrayGroup q ss at = record { aggregates = c .0; grouping = c .1; same = c .2; distinct = sym (i (c .0) (c .1) (c .3)) ∙ y; pairs = c .3 } in
+              let t : IsTrayGroup q ss at = record { aggregates = c .0; grouping = c .1; same = c .2; again = sym (i (c .0) (c .1) (c .3)) ∙ y; pairs = c .3 } in
               record {
                 at-is = λ f v. let e : at ≡ f = cc in subst (IsTrayGroup q ss) e t;
                 other-is = λ v. let a : _≡_ {A = ℕ} 0 1 = cc in absurd (omega arith);
               }
 
-          pub query-not-such : {b : Bool} → DistinctIs q at b → b ≡ false → TrayGroupIs q TrayGroup.Other
+          pub query-not-such : {b : Bool} → RegroupsIs q at b → b ≡ false → TrayGroupIs q TrayGroup.Other
           unfolding regrouping only
           query-not-such i y = other-only (λ ss u o.
               let c = stage-group ss u o in

@@ -1,12 +1,13 @@
-//! Whether a query is one group alone whose tray results can be grouped again: all its destinations, of the aggregates
-//! and of the key together, are single labels, and no two are equal.
+//! Whether a query is one group alone whose tray results can be grouped again: none of its aggregates is a total, all its
+//! destinations, of the aggregates and of the key together, are single labels, and no two are equal.
 ghost use mathlib.Core.Path.{_≡_};
 ghost use Rattle.spec_trees.specs.Lists.{All};
 ghost use Rattle.spec_queries.specs.Rules.{OkPair};
-ghost use Rattle.queries.specs.Places.{pairsBytes, OkAt};
-ghost use Rattle.trays.specs.TrayGroup.{groupOf, QueryForm, TargetsReady, GroupStands, NoneLeadsIs, AloneIs, ApartIs, DistinctIs, TrayGroupIs};
+ghost use Rattle.queries.specs.Places.{pairsBytes, HoldsAt, OkAt};
+ghost use Rattle.trays.specs.TrayGroup.{groupOf, QueryForm, TargetsReady, GroupStands, NoneLeadsIs, AloneIs, ApartIs, DistinctIs, NoTotalsIs, RegroupsIs, TrayGroupIs};
 use areas::area::field_end;
 use areas::span::Span;
+use queries::item::is_total;
 use queries::item::pair_at;
 use queries::path::step_at;
 use queries::path::steps;
@@ -85,6 +86,34 @@ fn distinct(query: &[u8], group: GroupAt) -> bool
     apart(query, keys, Span { from: end, to: end })
 }
 
+/// Whether none of the pairs is a total.
+fn no_totals(query: &[u8], pairs: Span) -> bool
+    requires { ⌜ HoldsAt pairsBytes (now query) pairs ⌝ }
+    ensures { λ r. ⌜ NoTotalsIs (now (query .entry)) pairs r ⌝ }
+{
+    let end = pairs.to;
+    let mut at = pairs.from;
+    while at != end {
+        let m = field_end(query, at);
+        if is_total(query, Span { from: at, to: m }) {
+            return false;
+        }
+        at = m;
+    }
+    true
+}
+
+/// Whether the group's tray results can be grouped again.
+fn regroups(query: &[u8], group: GroupAt) -> bool
+    requires { ⌜ GroupStands (now query) group ⌝ }
+    ensures { λ r. ⌜ RegroupsIs (now (query .entry)) group r ⌝ }
+{
+    if !no_totals(query, group.aggregates) {
+        return false;
+    }
+    distinct(query, group)
+}
+
 /// The stage, if it is a group.
 fn group_of(stage: StageAt) -> TrayGroup
     ensures { λ r. ⌜ r ≡ groupOf stage ⌝ }
@@ -98,7 +127,8 @@ fn group_of(stage: StageAt) -> TrayGroup
     }
 }
 
-/// The group, if an admitted query is one such group alone.
+/// The group, if an admitted query is one such group alone. For any other, as where tag 54 stands, the regrouping call
+/// gives 3.
 pub fn tray_group(query: &[u8]) -> TrayGroup
     requires { ⌜ QueryForm (now query) ⌝ }
     ensures { λ r. ⌜ TrayGroupIs (now (query .entry)) r ⌝ }
@@ -116,7 +146,7 @@ pub fn tray_group(query: &[u8]) -> TrayGroup
     let TrayGroup::At(group) = found else {
         return TrayGroup::Other;
     };
-    if distinct(query, group) {
+    if regroups(query, group) {
         TrayGroup::At(group)
     } else {
         TrayGroup::Other

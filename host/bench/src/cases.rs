@@ -34,12 +34,14 @@ impl Kind {
     }
 }
 
-pub const KINDS: [Kind; 16] = [
+pub const KINDS: [Kind; 18] = [
     Kind::new("the paper's seven stages", paper::pipeline),
     Kind::new("match and project", match_project),
     Kind::new("two unwinds and a match", two_unwinds),
     Kind::new("group, few classes", group_few),
     Kind::new("group, many classes", group_many),
+    Kind::new("totals, few classes", totals_few),
+    Kind::new("totals, many classes", totals_many),
     Kind::new("group, joined keys", group_joined),
     Kind::new("group, sixteen subsets", group_subsets),
     Kind::new("lookup, unique keys", lookup_unique),
@@ -115,6 +117,16 @@ fn group_few(n: usize) -> Case {
 fn group_many(n: usize) -> Case {
     let stages = [group(&[(&[3], &[3])], &[(&[1], &[1])])];
     Case { query: query(&stages), input: filled(n, job), joined: none() }
+}
+
+/// The group of few classes, with the sum of each in place of its members' integers.
+fn totals_few(n: usize) -> Case {
+    Case { query: query(&[totals(&[(&[1], &[1])], &[(&[2], &[2])])]), ..group_few(n) }
+}
+
+/// The group of many classes, with the sum of each in place of its member's integers.
+fn totals_many(n: usize) -> Case {
+    Case { query: query(&[totals(&[(&[3], &[3])], &[(&[1], &[1])])]), ..group_many(n) }
 }
 
 /// Twenty classes by a path of two labels. Its value is joined from two to four arrays, and members of a class

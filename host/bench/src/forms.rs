@@ -61,13 +61,18 @@ pub fn project(items: &[Vec<u8>]) -> Vec<u8> {
 
 pub type Pair<'a> = (&'a [u8], &'a [u8]);
 
-fn pairs(tag: u8, ps: &[Pair]) -> Vec<u8> {
-    let all: Vec<Vec<u8>> = ps.iter().map(|(s, t)| around(49, &[path(s), path(t)])).collect();
+fn pairs(tag: u8, of: u8, ps: &[Pair]) -> Vec<u8> {
+    let all: Vec<Vec<u8>> = ps.iter().map(|(s, t)| around(of, &[path(s), path(t)])).collect();
     around(tag, &all)
 }
 
 pub fn group(aggregates: &[Pair], grouping: &[Pair]) -> Vec<u8> {
-    around(20, &[pairs(50, aggregates), pairs(51, grouping)])
+    around(20, &[pairs(50, 49, aggregates), pairs(51, 49, grouping)])
+}
+
+/// A group whose aggregates are totals.
+pub fn totals(aggregates: &[Pair], grouping: &[Pair]) -> Vec<u8> {
+    around(20, &[pairs(50, 54, aggregates), pairs(51, 49, grouping)])
 }
 
 pub fn lookup(q: &[u8], r: &[u8], p: &[u8]) -> Vec<u8> {

@@ -120,7 +120,8 @@ mod tests {
     fn opponent_answers_as_the_reference() {
         let noise: Vec<u8> = (0..LONGEST_WORK).map(|i| (i * 167 + 13) as u8).collect();
         let entries: Vec<u16> = (0..LONGEST_POSITIONS).map(|i| (i * 167 + 13) as u16).collect();
-        for (i, (c, verdict)) in Cases::new(11).take(5_000).enumerate() {
+        let cases = Cases::new(11).take(5_000).chain(Cases::with_totals(11).take(2_000));
+        for (i, (c, verdict)) in cases.enumerate() {
             let mut work = noise[..c.work_length].to_vec();
             let mut result = noise[..c.result_length].to_vec();
             let mut positions = entries[..c.positions_length].to_vec();

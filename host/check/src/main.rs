@@ -1,10 +1,11 @@
 //! `check [N] [SEED]`: the engine beside the reference on N random cases.
 //!
-//! Two of three are runs, and the third a regrouping. Compared are the number,
-//! the length, every byte of the result area, every entry of the position area,
-//! the work area, the three areas that are only read, guards around all six,
-//! and the two calls that only check. Ends with a table of how many cases of each number agreed, or with
-//! status 1 and the first case that differs.
+//! Two of three are runs, a fifth of them with totals, and the third is a
+//! regrouping. Compared are the number, the length, every byte of the result
+//! area, every entry of the position area, the work area, the three areas that
+//! are only read, guards around all six, and the two calls that only check.
+//! Ends with a table of how many cases of each number agreed, or with status 1
+//! and the first case that differs.
 
 mod area;
 mod engine;
@@ -39,7 +40,7 @@ fn seed_of_now() -> u64 {
 }
 
 /// The numbers of the table, 0 among them.
-const NUMBERS: usize = 12;
+const NUMBERS: usize = 13;
 
 /// How many cases of each number have agreed, by call, and since when.
 struct Progress {

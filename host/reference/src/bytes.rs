@@ -64,6 +64,7 @@ pub mod tags {
     pub const PAIR: u8 = 49;
     pub const AGGREGATES: u8 = 50;
     pub const GROUPING: u8 = 51;
+    pub const TOTAL: u8 = 54;
 }
 use tags::*;
 
@@ -168,7 +169,7 @@ fn stage((tag, content): Field) -> Option<Stage> {
         (UNWIND, [by]) => Some(Stage::Unwind(path(*by)?)),
         (PROJECT, _) => Some(Stage::Project(several(content, 1, ITEMS_LIMIT, item)?)),
         (GROUP, [(AGGREGATES, first), (GROUPING, second)]) => Some(Stage::Group {
-            aggregates: several(first, 0, AGGREGATES_LIMIT, pair)?,
+            aggregates: several(first, 0, AGGREGATES_LIMIT, aggregate)?,
             grouping: several(second, 0, GROUPING_LIMIT, pair)?,
         }),
         (LOOKUP, [q, r, p]) => Some(Stage::Lookup { q: path(*q)?, r: path(*r)?, p: destination(*p)? }),
@@ -234,9 +235,19 @@ fn item((tag, content): Field) -> Option<Item> {
     }
 }
 
+/// A pair of the aggregates, where a total may stand too: of the same content.
+fn aggregate((tag, content): Field) -> Option<Pair> {
+    match tag {
+        TOTAL => pair((PAIR, content)).map(|pair| Pair { total: true, ..pair }),
+        _ => pair((tag, content)),
+    }
+}
+
 fn pair((tag, content): Field) -> Option<Pair> {
     match (tag, fields(content)?.as_slice()) {
-        (PAIR, [from, to]) => Some(Pair { source: path(*from)?, destination: destination(*to)? }),
+        (PAIR, [from, to]) => {
+            Some(Pair { source: path(*from)?, destination: destination(*to)?, total: false })
+        }
         _ => None,
     }
 }
@@ -339,7 +350,8 @@ fn encode_item(item: &Item) -> Option<Vec<u8>> {
 }
 
 fn encode_pair(pair: &Pair) -> Option<Vec<u8>> {
-    holding(PAIR, [encode_path(&pair.source), encode_path(&pair.destination)])
+    let tag = if pair.total { TOTAL } else { PAIR };
+    holding(tag, [encode_path(&pair.source), encode_path(&pair.destination)])
 }
 
 #[cfg(test)]
@@ -428,9 +440,40 @@ mod tests {
         assert!(!project(0) && project(1) && project(16) && !project(17));
         let list = |n| accepted(place(Data::List(vec![Data::Path(vec![1]); n])));
         assert!(!list(0) && list(1) && list(8) && !list(9));
-        let pairs = |n| vec![Pair { source: vec![], destination: vec![1] }; n];
+        let pairs = |n| vec![Pair::new(&[], &[1]); n];
         let group = |a, g| accepted(Stage::Group { aggregates: pairs(a), grouping: pairs(g) });
         assert!(group(0, 0) && group(8, 4) && !group(9, 4) && !group(8, 5));
+    }
+
+    #[test]
+    fn a_total_is_a_pair_among_the_aggregates_alone() {
+        let (pair, total) = (Pair::new(&[3], &[1]), Pair::total(&[3], &[1]));
+        let group = |aggregates: &[&Pair], grouping: &[&Pair]| {
+            let owned = |pairs: &[&Pair]| pairs.iter().map(|pair| (*pair).clone()).collect();
+            accepted(Stage::Group { aggregates: owned(aggregates), grouping: owned(grouping) })
+        };
+        assert!(group(&[&total], &[]) && group(&[&total; 8], &[&pair; 4]));
+        assert!(group(&[&pair, &total, &pair, &total], &[&pair]));
+        assert!(!group(&[&total; 9], &[]) && !group(&[&[&pair; 8][..], &[&total]].concat(), &[]));
+        assert!(!group(&[], &[&total]) && !group(&[&total], &[&pair, &total]));
+        let content = encode_pair(&total).unwrap();
+        assert_eq!(content, [54, 0, 8, 32, 0, 1, 3, 32, 0, 1, 1]);
+        for tag in [QUERY, PROJECT, GROUP, LOOKUP] {
+            assert_eq!(decode_query(&holding(QUERY, [field(tag, &content)]).unwrap()), None);
+        }
+        assert_eq!(decode_query(&field(QUERY, &content).unwrap()), None);
+    }
+
+    #[test]
+    fn a_total_has_two_paths() {
+        let group = |content: &[u8]| {
+            let lists = [holding(AGGREGATES, [field(TOTAL, content)]), field(GROUPING, &[])];
+            decode_query(&holding(QUERY, [holding(GROUP, lists)]).unwrap()).is_some()
+        };
+        let (one, none) = ([32, 0, 1, 1], [32, 0, 0]);
+        assert!(group(&[&one[..], &one].concat()) && group(&[&none[..], &one].concat()));
+        assert!(!group(&[&one[..], &none].concat()) && !group(&one) && !group(&[]));
+        assert!(!group(&[&one[..], &one, &one].concat()));
     }
 
     #[test]
@@ -440,8 +483,9 @@ mod tests {
         let lookup = |p: &[u8]| accepted(Stage::Lookup { q: vec![], r: vec![], p: p.to_vec() });
         assert!(lookup(&[1]) && !lookup(&[]));
         assert!(!accepted(Stage::Project(vec![Item::Place(Data::Path(vec![]), vec![])])));
-        let pair = Pair { source: vec![], destination: vec![] };
-        assert!(!accepted(Stage::Group { aggregates: vec![pair], grouping: vec![] }));
+        for pair in [Pair::new(&[], &[]), Pair::total(&[], &[])] {
+            assert!(!accepted(Stage::Group { aggregates: vec![pair], grouping: vec![] }));
+        }
     }
 
     #[test]

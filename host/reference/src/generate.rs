@@ -10,6 +10,7 @@ mod day;
 mod draw;
 mod random;
 mod regroup;
+mod totals;
 
 use crate::bytes::{
     encode_array, encode_query, AGGREGATES_LIMIT, GROUPING_LIMIT, ITEMS_LIMIT, LIST_LIMIT, NESTING_LIMIT,
@@ -97,11 +98,24 @@ impl Draft {
 /// Cases without end, with what the reference answers to them.
 pub struct Cases {
     random: Random,
+    kinds: Vec<(usize, Kind<Case>)>,
 }
 
 impl Cases {
+    /// Cases of all kinds.
     pub fn new(seed: u64) -> Cases {
-        Cases { random: Random::new(seed) }
+        Cases { random: Random::new(seed), kinds: [&KINDS[..], &totals::KINDS].concat() }
+    }
+
+    /// Cases without totals. A seed gives those that it gave before there were
+    /// totals, so that the stored ones can be made again.
+    pub fn without_totals(seed: u64) -> Cases {
+        Cases { kinds: KINDS.to_vec(), ..Cases::new(seed) }
+    }
+
+    /// Cases of groups with totals.
+    pub fn with_totals(seed: u64) -> Cases {
+        Cases { kinds: totals::KINDS.to_vec(), ..Cases::new(seed) }
     }
 }
 
@@ -110,7 +124,8 @@ impl Iterator for Cases {
 
     fn next(&mut self) -> Option<(Case, Verdict)> {
         loop {
-            let drawn = of_kinds(&mut self.random, &KINDS).and_then(|case| in_areas(&mut self.random, case));
+            let case = of_kinds(&mut self.random, &self.kinds);
+            let drawn = case.and_then(|case| in_areas(&mut self.random, case));
             if drawn.is_some() {
                 return drawn;
             }
@@ -121,7 +136,7 @@ impl Iterator for Cases {
 /// A kind of cases.
 type Kind<C> = fn(&mut Random) -> Option<C>;
 
-/// The kinds of cases, and how often each is drawn, in thousand.
+/// The kinds of cases without totals, and how often each is drawn, in thousand.
 const KINDS: [(usize, Kind<Case>); 22] = [
     (205, |random| ordinary(random).case()),
     (90, |random| groups(random).case()),
@@ -219,9 +234,9 @@ fn related(random: &mut Random, input: &[Tree]) -> Vec<Tree> {
 fn groups(random: &mut Random) -> Draft {
     let input: Vec<Tree> = (0..random.between(1, 24)).map(|_| record(random, 4)).collect();
     let number = random.between(0, GROUPING_LIMIT);
-    let grouping = (1..=number as u8).map(|label| Pair {
-        source: source(random, label),
-        destination: random.pick(&[vec![label], vec![5], vec![1, 2]]),
+    let grouping = (1..=number as u8).map(|label| {
+        let from = source(random, label);
+        Pair::new(&from, &random.pick(&[vec![label], vec![5], vec![1, 2]]))
     });
     let grouping = grouping.collect();
     let number = random.pick(&[0, 1, 1, 2, 3]);
@@ -236,7 +251,7 @@ fn groups(random: &mut Random) -> Draft {
 /// bears the smallest position.
 fn groups_of_groups(random: &mut Random) -> Draft {
     let input: Vec<Tree> = (0..random.between(2, 24)).map(|_| record(random, 3)).collect();
-    let same = |label: u8| Pair { source: vec![label], destination: vec![label] };
+    let same = |label: u8| Pair::new(&[label], &[label]);
     let by = |labels: &[u8]| Stage::Group {
         aggregates: vec![same(3)],
         grouping: labels.iter().map(|label| same(*label)).collect(),
@@ -319,7 +334,7 @@ fn near_values(random: &mut Random) -> Draft {
             1 => Stage::Match(Criterion::Not(Box::new(Criterion::Equal(vec![1], random.pick(&values))))),
             2 => Stage::Lookup { q: vec![1], r: vec![2], p: vec![3] },
             _ => {
-                let pair = |label: u8| Pair { source: vec![label], destination: vec![label] };
+                let pair = |label: u8| Pair::new(&[label], &[label]);
                 Stage::Group { aggregates: vec![pair(2)], grouping: vec![pair(1)] }
             }
         });
@@ -415,10 +430,7 @@ fn array_limits(random: &mut Random) -> Draft {
         0 => draft.stages,
         1 => vec![],
         2 => vec![Stage::Match(draw::criterion(random, &draft.input, 2))],
-        _ => vec![Stage::Group {
-            aggregates: vec![],
-            grouping: vec![Pair { source: vec![2], destination: vec![1] }],
-        }],
+        _ => vec![Stage::Group { aggregates: vec![], grouping: vec![Pair::new(&[2], &[1])] }],
     };
     let size = random.pick(&[
         ARRAY_LIMIT - 1,
@@ -552,15 +564,15 @@ fn grown_by_lookup(random: &mut Random, p: Vec<u8>, size: usize) -> Draft {
 /// All trees, aggregated.
 fn grown_by_aggregate(random: &mut Random, destination: Vec<u8>, size: usize) -> Draft {
     let input = draw::filled(random, vec![], HEAD + size);
-    let aggregates = vec![Pair { source: vec![], destination }];
-    let grouping = random.pick(&[vec![], vec![Pair { source: vec![9], destination: vec![1] }]]);
+    let aggregates = vec![Pair::new(&[], &destination)];
+    let grouping = random.pick(&[vec![], vec![Pair::new(&[9], &[1])]]);
     Draft { stages: vec![Stage::Group { aggregates, grouping }], input, joined: vec![] }
 }
 
 /// A tree as a grouping value.
 fn grown_by_grouping(random: &mut Random, destination: Vec<u8>, size: usize) -> Draft {
     let tree = draw::sized(random, size);
-    let grouping = vec![Pair { source: vec![], destination }];
+    let grouping = vec![Pair::new(&[], &destination)];
     Draft {
         stages: vec![Stage::Group { aggregates: vec![], grouping }],
         input: among_small(random, tree),
@@ -589,7 +601,7 @@ fn depth_growth(random: &mut Random) -> Draft {
     let path = vec![random.pick(&[1, 2]); labels];
     let depth = random.pick(&[DEPTH_LIMIT, DEPTH_LIMIT, DEPTH_LIMIT + 1]);
     let tree = draw::deep(random, depth - labels);
-    let pair = vec![Pair { source: vec![], destination: path.clone() }];
+    let pair = vec![Pair::new(&[], &path)];
     let (stage, joined) = match random.below(4) {
         0 => (Stage::Group { aggregates: pair, grouping: vec![] }, vec![]),
         1 => (Stage::Group { aggregates: vec![], grouping: pair }, vec![]),
@@ -619,7 +631,7 @@ fn list_growth(random: &mut Random) -> Draft {
 /// What may follow a list that has grown.
 fn end_of_growth(random: &mut Random) -> Vec<Stage> {
     let none = Stage::Match(Criterion::Not(Box::new(Criterion::True)));
-    let grouping = vec![Pair { source: vec![random.pick(&[2, 3, 9])], destination: vec![1] }];
+    let grouping = vec![Pair::new(&[random.pick(&[2, 3, 9])], &[1])];
     let group = Stage::Group { aggregates: vec![], grouping };
     match random.below(6) {
         0 => vec![],
@@ -776,9 +788,9 @@ mod tests {
 
     #[test]
     fn most_are_accepted_and_every_number_appears() {
-        let mut numbers = [0; 12];
-        Cases::new(1).take(4_000).for_each(|(_, verdict)| numbers[usize::from(verdict.number())] += 1);
-        assert!(numbers[0] > 2_000, "{numbers:?}");
+        let mut numbers = [0; 13];
+        Cases::new(1).take(5_000).for_each(|(_, verdict)| numbers[usize::from(verdict.number())] += 1);
+        assert!(numbers[0] > 2_500, "{numbers:?}");
         assert!(numbers.iter().all(|number| *number >= 40), "{numbers:?}");
     }
 

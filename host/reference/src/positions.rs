@@ -46,7 +46,7 @@ mod tests {
     }
 
     fn pair(label: u8) -> Pair {
-        Pair { source: vec![label], destination: vec![label] }
+        Pair::new(&[label], &[label])
     }
 
     /// A tree with a value under each of some labels.

@@ -12,19 +12,20 @@ use crate::run::{Outcome, Stop, Verdict, WORK_LEAST};
 use crate::stages::{Pair, Stage};
 use crate::tree::Tree;
 
-/// What stages regroup by, if they are one group alone whose destinations are
-/// single labels, distinct over both lists of pairs: that group, with each
-/// destination for its source.
+/// What stages regroup by, if they are one group alone, without a total, whose
+/// destinations are single labels, distinct over both lists of pairs: that
+/// group, with each destination for its source.
 pub fn regrouping(stages: &[Stage]) -> Option<Stage> {
     let [Stage::Group { aggregates, grouping }] = stages else {
         return None;
     };
+    let totals = aggregates.iter().any(|pair| pair.total);
     let destinations: Vec<&[u8]> =
         aggregates.iter().chain(grouping).map(|pair| &pair.destination[..]).collect();
     let single = destinations.iter().all(|path| path.len() == 1);
     let distinct = (1..destinations.len()).all(|at| !destinations[..at].contains(&destinations[at]));
     let again = |pair: &Pair| Pair { source: pair.destination.clone(), ..pair.clone() };
-    (single && distinct).then(|| Stage::Group {
+    (!totals && single && distinct).then(|| Stage::Group {
         aggregates: aggregates.iter().map(again).collect(),
         grouping: grouping.iter().map(again).collect(),
     })
@@ -93,10 +94,6 @@ mod tests {
         Tree::integer(value)
     }
 
-    fn pair(source: &[u8], destination: &[u8]) -> Pair {
-        Pair { source: source.to_vec(), destination: destination.to_vec() }
-    }
-
     fn group(aggregates: &[Pair], grouping: &[Pair]) -> Stage {
         Stage::Group { aggregates: aggregates.to_vec(), grouping: grouping.to_vec() }
     }
@@ -121,8 +118,8 @@ mod tests {
 
     #[test]
     fn each_destination_is_now_also_the_source() {
-        let one = group(&[pair(&[3, 4], &[1])], &[pair(&[], &[2])]);
-        let again = group(&[pair(&[1], &[1])], &[pair(&[2], &[2])]);
+        let one = group(&[Pair::new(&[3, 4], &[1])], &[Pair::new(&[], &[2])]);
+        let again = group(&[Pair::new(&[1], &[1])], &[Pair::new(&[2], &[2])]);
         assert_eq!(regrouping(&[one]), Some(again.clone()));
         assert_eq!(regrouping(std::slice::from_ref(&again)), Some(again));
         assert_eq!(regrouping(&[group(&[], &[])]), Some(group(&[], &[])));
@@ -130,19 +127,21 @@ mod tests {
 
     #[test]
     fn what_is_not_one_such_group_alone() {
-        let such = group(&[pair(&[1], &[1])], &[pair(&[2], &[2])]);
-        let (one, other) = (pair(&[1], &[3]), pair(&[2], &[3]));
+        let such = group(&[Pair::new(&[1], &[1])], &[Pair::new(&[2], &[2])]);
+        let (one, other) = (Pair::new(&[1], &[3]), Pair::new(&[2], &[3]));
         for stages in [
             vec![],
             vec![Stage::Unwind(vec![])],
             vec![such.clone(), such.clone()],
             vec![Stage::Match(Criterion::True), such.clone()],
             vec![such, Stage::Match(Criterion::True)],
-            vec![group(&[pair(&[1], &[1, 2])], &[])],
-            vec![group(&[], &[pair(&[1], &[1, 2])])],
+            vec![group(&[Pair::new(&[1], &[1, 2])], &[])],
+            vec![group(&[], &[Pair::new(&[1], &[1, 2])])],
             vec![group(&[one.clone(), other.clone()], &[])],
             vec![group(&[], &[one.clone(), other.clone()])],
-            vec![group(&[one], &[other])],
+            vec![group(std::slice::from_ref(&one), &[other])],
+            vec![group(&[Pair::total(&[1], &[1])], &[])],
+            vec![group(&[one, Pair::total(&[1], &[1])], &[Pair::new(&[2], &[2])])],
         ] {
             assert_eq!(regrouping(&stages), None, "{stages:?}");
             let empty = array(&[]);
@@ -153,7 +152,7 @@ mod tests {
 
     #[test]
     fn the_classes_of_two_trays_come_together() {
-        let by_1 = group(&[pair(&[2], &[2])], &[pair(&[1], &[1])]);
+        let by_1 = group(&[Pair::new(&[2], &[2])], &[Pair::new(&[1], &[1])]);
         let tree =
             |key, values: &[i64]| v().with(1, vec![n(key)]).with(2, values.iter().map(|x| n(*x)).collect());
         let (first, second) = ([tree(7, &[1]), tree(8, &[2])], [tree(9, &[3]), tree(7, &[4, 5])]);
@@ -163,7 +162,7 @@ mod tests {
 
     #[test]
     fn an_aggregate_absent_in_one_tray_and_empty_in_another_is_present() {
-        let all = group(&[pair(&[1], &[1])], &[]);
+        let all = group(&[Pair::new(&[1], &[1])], &[]);
         let (absent, empty) = ([v()], [v().with(1, vec![])]);
         assert_eq!(regroup(&all, &absent, &empty), accepted(&empty));
         assert_eq!(regroup(&all, &empty, &absent), accepted(&empty));
@@ -183,7 +182,7 @@ mod tests {
 
     #[test]
     fn the_join_counts_one_head() {
-        let none = group(&[], &[pair(&[9], &[9])]);
+        let none = group(&[], &[Pair::new(&[9], &[9])]);
         let half = texts(8_000);
         let answer = |size| regroup(&none, &half, &texts(size));
         assert_eq!(answer(ARRAY_LIMIT - 8_000 + 3), accepted(&[v()]));
@@ -194,8 +193,9 @@ mod tests {
     fn refusals_in_their_order() {
         let large = v().with(1, texts(1_500));
         let (over, half) = (array(std::slice::from_ref(&large)), array(&vec![large; 6]));
-        let such = query(&[group(&[pair(&[1], &[1])], &[])]);
-        let two = query(&[group(&[pair(&[1], &[1, 1])], &[])]);
+        let such = query(&[group(&[Pair::new(&[1], &[1])], &[])]);
+        let two = query(&[group(&[Pair::new(&[1], &[1, 1])], &[])]);
+        let total = query(&[group(&[Pair::total(&[1], &[1])], &[])]);
         let (bad, long) = (vec![1], vec![0; ARRAY_LIMIT + 1]);
         let run = |query: &[u8], first: &[u8], second: &[u8], work, kept: bool| {
             let outcome = plain_regroup(query, first, second, work, &[3; 4]);
@@ -207,6 +207,7 @@ mod tests {
         assert_eq!(run(&[0; 4_097], &long, &long, WORK_LEAST, true), 2);
         assert_eq!(run(&bad, &long, &long, WORK_LEAST, true), 3);
         assert_eq!(run(&two, &long, &long, WORK_LEAST, true), 3);
+        assert_eq!(run(&total, &long, &bad, WORK_LEAST, true), 3);
         assert_eq!(run(&such, &long, &bad, WORK_LEAST, true), 4);
         assert_eq!(run(&such, &bad, &long, WORK_LEAST, true), 5);
         assert_eq!(run(&such, &half, &long, WORK_LEAST, true), 4);
@@ -216,9 +217,17 @@ mod tests {
         assert_eq!(run(&such, &over, &array(&[]), WORK_LEAST, false), 10);
     }
 
+    /// Two totals, each placed, that do not fit together.
+    #[test]
+    fn a_total_that_would_not_fit_is_never_added() {
+        let totals = group(&[Pair::total(&[1], &[1])], &[]);
+        let half = [v().with(1, vec![n(i64::MAX)])];
+        assert_eq!(regroup(&totals, &half, &half), Verdict::Refused(3));
+    }
+
     #[test]
     fn a_class_may_come_to_the_tree_limit() {
-        let all = group(&[pair(&[1], &[1])], &[]);
+        let all = group(&[Pair::new(&[1], &[1])], &[]);
         let tree = |size| vec![v().with(1, texts(size))];
         let answer = |size| regroup(&all, &tree(1_000), &tree(size)).number();
         let left = TREE_LIMIT - tree(1_000)[0].size() + HEAD;

@@ -3,7 +3,7 @@
 
 use crate::bytes::{decode_array, decode_query, encode_array, QUERY_LIMIT};
 use crate::positions::{carried, numbered, Borne};
-use crate::stages::Stage;
+use crate::stages::{Stage, TooLarge};
 use crate::tree::{array_size, Tree, ARRAY_LIMIT};
 
 /// The least work area, in bytes.
@@ -78,11 +78,11 @@ impl Verdict {
     }
 
     /// The outcome over a result area and a position area: 1 to 7 and 11 leave
-    /// both, 8 to 10 clear both, and acceptance writes at their start. 1 and
-    /// 11 leave the work area too.
+    /// both, 8 to 10 and 12 clear both, and acceptance writes at their start. 1
+    /// and 11 leave the work area too.
     pub fn over(&self, result_area: &[u8], position_area: &[u16]) -> Outcome {
         let (mut result, mut positions) = (result_area.to_vec(), position_area.to_vec());
-        if let Verdict::Refused(8..=10) = self {
+        if let Verdict::Refused(8..=10 | 12) = self {
             result.fill(0);
             positions.fill(0);
         }
@@ -186,12 +186,19 @@ pub(crate) fn after_stages(
     for stage in stages {
         let groups = matches!(stage, Stage::Group { .. });
         refuse(9, groups && array_size(trees_of(&list)) > ARRAY_LIMIT)?;
-        list = carried(stage, &list, joined).map_err(|_| Stop::Refused(8))?;
+        list = carried(stage, &list, joined).map_err(refusal_of)?;
         if list.len() > most_trees {
             return Err(Stop::TooLong);
         }
     }
     Ok(list)
+}
+
+fn refusal_of(what: TooLarge) -> Stop {
+    match what {
+        TooLarge::Tree => Stop::Refused(8),
+        TooLarge::Total => Stop::Refused(12),
+    }
 }
 
 fn trees_of(list: &[Borne]) -> impl Iterator<Item = &Tree> {
@@ -242,7 +249,7 @@ pub fn check_query(bytes: &[u8]) -> u8 {
 mod tests {
     use super::*;
     use crate::bytes::encode_query;
-    use crate::stages::{Criterion, Data, Item};
+    use crate::stages::{Criterion, Data, Item, Pair};
 
     const NO_STAGE: [u8; 3] = [16, 0, 0];
     const EMPTY: [u8; 3] = [1, 0, 0];
@@ -368,6 +375,81 @@ mod tests {
         assert_eq!(number(&query(&stages), &input, &EMPTY), 8);
         let later = [Stage::Unwind(vec![1]), Stage::Unwind(vec![2]), empty_group(), large];
         assert_eq!(number(&query(&later), &input, &EMPTY), 9);
+    }
+
+    /// A group whose one class has a total at label 2 of what stands there.
+    fn total_group() -> Stage {
+        Stage::Group { aggregates: vec![Pair::total(&[2], &[2])], grouping: vec![] }
+    }
+
+    /// A tree whose total of label 2 does not fit, with voids under label 1.
+    fn past(voids: usize) -> Tree {
+        let integers = vec![Tree::integer(i64::MAX), Tree::integer(1)];
+        Tree::void().with(1, vec![Tree::void(); voids]).with(2, integers)
+    }
+
+    #[test]
+    fn a_total_that_does_not_fit_clears_all_areas() {
+        let (stages, input) = (query(&[total_group()]), array(&[past(0)]));
+        let outcome = plain_run(&stages, &input, &EMPTY, WORK_LEAST, &[187; 9_999], &[7; 4_000]);
+        let expected = Outcome {
+            number: 12,
+            length: 0,
+            result: vec![0; 9_999],
+            positions: vec![0; 4_000],
+            work: Work::Zero,
+        };
+        assert_eq!(outcome, expected);
+    }
+
+    #[test]
+    fn a_total_is_tested_after_9_and_before_8() {
+        let unwind = Stage::Unwind(vec![1]);
+        let large = Stage::Project(vec![Item::Place(Data::Literal(vec![Tree::void(); 400]), vec![1])]);
+        let run = |stages: &[Stage], voids: usize| number(&query(stages), &array(&[past(voids)]), &EMPTY);
+        // the trees behind the unwind have 54 bytes each: 303 of them enter, 304 do not
+        assert_eq!(run(&[unwind.clone(), total_group()], 303), 12);
+        assert_eq!(run(&[unwind.clone(), total_group()], 304), 9);
+        assert_eq!(run(&[total_group(), large.clone()], 1), 12);
+        assert_eq!(run(&[large.clone(), total_group()], 1), 8);
+        // a later group's total waits for what comes before it
+        let kept = Stage::Group { aggregates: vec![Pair::new(&[2], &[2])], grouping: vec![] };
+        assert_eq!(run(&[kept.clone(), total_group()], 1), 12);
+        assert_eq!(run(&[kept, large, total_group()], 1), 8);
+        assert_eq!(run(&[unwind, total_group(), total_group()], 303), 12);
+    }
+
+    #[test]
+    fn a_total_is_tested_before_the_trees_of_its_group() {
+        let pair = Pair::new(&[1], &[1, 1]);
+        let group = |aggregates: &[Pair]| {
+            query(&[Stage::Group { aggregates: aggregates.to_vec(), grouping: vec![] }])
+        };
+        let (input, total) = (array(&[past(200), past(200)]), Pair::total(&[2], &[2]));
+        assert_eq!(number(&group(std::slice::from_ref(&pair)), &input, &EMPTY), 8);
+        assert_eq!(number(&group(&[pair.clone(), total.clone()]), &input, &EMPTY), 12);
+        assert_eq!(number(&group(&[total, pair]), &input, &EMPTY), 12);
+    }
+
+    #[test]
+    fn a_total_that_is_misplaced_is_malformed() {
+        let (one, total) = (Pair::new(&[1], &[1]), Pair::total(&[1], &[1]));
+        for (aggregates, grouping, expected) in [
+            (vec![total.clone(); 8], vec![one.clone()], 0),
+            (vec![total.clone(); 9], vec![one], 3),
+            (vec![], vec![total], 3),
+        ] {
+            assert_eq!(number(&query(&[Stage::Group { aggregates, grouping }]), &EMPTY, &EMPTY), expected);
+        }
+    }
+
+    #[test]
+    fn a_tree_with_a_total_bears_the_position_of_its_first_member() {
+        let input = array(&[Tree::void(), past(0).with(2, vec![Tree::integer(3)]), Tree::void()]);
+        let group =
+            Stage::Group { aggregates: vec![Pair::total(&[2], &[2])], grouping: vec![Pair::new(&[2], &[1])] };
+        let outcome = plain_run(&query(&[group]), &input, &EMPTY, WORK_LEAST, &[187; ARRAY_LIMIT], &ENTRIES);
+        assert_eq!((outcome.number, &outcome.positions[..2]), (0, &[1, 2][..]));
     }
 
     #[test]

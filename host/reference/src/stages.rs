@@ -45,6 +45,21 @@ pub enum Item {
 pub struct Pair {
     pub source: Path,
     pub destination: Path,
+    /// Whether it is a total: what is placed is the sum of what is read. Only
+    /// an aggregate may be one.
+    pub total: bool,
+}
+
+impl Pair {
+    /// A pair that places what it reads.
+    pub fn new(source: &[u8], destination: &[u8]) -> Pair {
+        Pair { source: source.to_vec(), destination: destination.to_vec(), total: false }
+    }
+
+    /// A pair that places the sum of the integers that it reads.
+    pub fn total(source: &[u8], destination: &[u8]) -> Pair {
+        Pair { total: true, ..Pair::new(source, destination) }
+    }
 }
 
 /// A stage.
@@ -57,9 +72,12 @@ pub enum Stage {
     Lookup { q: Path, r: Path, p: Path },
 }
 
-/// A tree that was tested and passed a limit.
+/// What was tested and passed a limit: a tree, or a total of a group.
 #[derive(Clone, Copy, Debug, PartialEq, Eq)]
-pub struct TooLarge;
+pub enum TooLarge {
+    Tree,
+    Total,
+}
 
 /// What a path or data find in a tree: an array of its parts, or absent.
 pub type Found<'a> = Option<Vec<&'a Tree>>;
@@ -216,7 +234,7 @@ pub fn placed(array: Option<Vec<Tree>>, path: &[u8]) -> Tree {
 /// A tree, if it is not too large.
 fn tested(tree: Tree) -> Result<Tree, TooLarge> {
     if tree.too_large() {
-        Err(TooLarge)
+        Err(TooLarge::Tree)
     } else {
         Ok(tree)
     }
@@ -251,18 +269,21 @@ pub fn grouped(aggregates: &[Pair], grouping: &[Pair], trees: &[Tree]) -> Result
 /// The group stage: subsets of the grouping pairs by rising sum, and in each
 /// the classes in order of first appearance. Of each class its tree, and where
 /// in the list its first member stands, from 0.
+///
+/// The totals of all classes are tested before any tree is.
 pub fn grouped_from(
     aggregates: &[Pair],
     grouping: &[Pair],
     trees: &[&Tree],
 ) -> Result<Vec<(usize, Tree)>, TooLarge> {
-    let mut all = Vec::new();
-    for subset in 0..1_usize << grouping.len() {
-        for class in classes(grouping, subset, trees) {
-            all.push((class.first, class_tree(aggregates, grouping, &class)?));
+    let subsets = 0..1_usize << grouping.len();
+    let classes: Vec<Class> = subsets.flat_map(|subset| classes(grouping, subset, trees)).collect();
+    for class in &classes {
+        for pair in aggregates.iter().filter(|pair| pair.total) {
+            total(&pair.source, &class.members)?;
         }
     }
-    Ok(all)
+    classes.iter().map(|class| Ok((class.first, class_tree(aggregates, grouping, class)?))).collect()
 }
 
 /// Trees whose sources have equal values, absent ones among them.
@@ -294,17 +315,48 @@ fn sum_of_present(values: &[Found]) -> usize {
     values.iter().enumerate().map(|(j, value)| usize::from(value.is_some()) << j).sum()
 }
 
+/// What a path gives of all members of a class: applied to each, joined.
+fn over<'a>(path: &[u8], members: &[&'a Tree]) -> Found<'a> {
+    join(members.iter().map(|member| apply(path, member)))
+}
+
+/// The sum of the integer roots of the trees that a path gives of a class's
+/// members; none if no tree among them has an integer root.
+///
+/// The roots are those of the trees that the path gives, and not of trees
+/// below them. The sum is exact, in a type that is wide enough for any list:
+/// only at the end it is asked whether it fits.
+fn total(path: &[u8], members: &[&Tree]) -> Result<Option<i64>, TooLarge> {
+    let integer = |tree: &Tree| match tree.root {
+        Root::Integer(value) => Some(i128::from(value)),
+        _ => None,
+    };
+    let integers = over(path, members).unwrap_or_default().into_iter().filter_map(integer);
+    let exact = integers.reduce(|sum, value| sum + value);
+    exact.map(i64::try_from).transpose().map_err(|_| TooLarge::Total)
+}
+
+/// What an aggregate places of a class: all that its source gives, or of a
+/// total one bare integer.
+fn aggregate(pair: &Pair, members: &[&Tree]) -> Result<Option<Vec<Tree>>, TooLarge> {
+    if pair.total {
+        let sum = total(&pair.source, members)?;
+        return Ok(sum.map(|value| vec![Tree::integer(value)]));
+    }
+    Ok(over(&pair.source, members).map(owned))
+}
+
 /// The tree of a class: the aggregates, then the grouping values that are
 /// there, in list order. A value that is absent is none of the subset's, and
 /// no part is built of it.
 fn class_tree(aggregates: &[Pair], grouping: &[Pair], class: &Class) -> Result<Tree, TooLarge> {
-    let aggregated = aggregates.iter().map(|pair| {
-        let all = join(class.members.iter().map(|member| apply(&pair.source, member)));
-        placed(all.map(owned), &pair.destination)
-    });
+    let mut parts = Vec::new();
+    for pair in aggregates {
+        parts.push(placed(aggregate(pair, &class.members)?, &pair.destination));
+    }
     let values = grouping.iter().zip(&class.values).filter(|(_, value)| value.is_some());
-    let grouped = values.map(|(pair, value)| placed(value.clone().map(owned), &pair.destination));
-    built(Tree::void(), aggregated.chain(grouped))
+    parts.extend(values.map(|(pair, value)| placed(value.clone().map(owned), &pair.destination)));
+    built(Tree::void(), parts)
 }
 
 /// The lookup stage.
@@ -347,10 +399,6 @@ mod tests {
 
     fn n(value: i64) -> Tree {
         Tree::integer(value)
-    }
-
-    fn pair(source: &[u8], destination: &[u8]) -> Pair {
-        Pair { source: source.to_vec(), destination: destination.to_vec() }
     }
 
     #[test]
@@ -396,7 +444,7 @@ mod tests {
             v().with(2, vec![n(11)]),
             v().with(1, vec![n(1)]).with(2, vec![n(12)]),
         ];
-        let after = grouped(&[pair(&[2], &[2])], &[pair(&[1], &[1])], &trees).unwrap();
+        let after = grouped(&[Pair::new(&[2], &[2])], &[Pair::new(&[1], &[1])], &trees).unwrap();
         let second = v().with(1, vec![n(1)]).with(2, vec![n(10), n(12)]);
         assert_eq!(after, [v().with(2, vec![n(11)]), second]);
     }
@@ -453,9 +501,124 @@ mod tests {
             tree(Some(1), None),
             tree(None, None),
         ];
-        let after = grouped(&[], &[pair(&[1], &[1]), pair(&[2], &[2])], &trees).unwrap();
+        let after = grouped(&[], &[Pair::new(&[1], &[1]), Pair::new(&[2], &[2])], &trees).unwrap();
         let order = [4, 2, 3, 1, 0].map(|index: usize| trees[index].clone());
         assert_eq!(after, order);
+    }
+
+    /// What a group of all trees gives, one class, by these aggregates.
+    fn of_all(aggregates: &[Pair], trees: &[Tree]) -> Result<Tree, TooLarge> {
+        grouped(aggregates, &[], trees).map(|all| all[0].clone())
+    }
+
+    /// The total at label 2 of these trees in one array.
+    fn total_of(trees: &[Tree]) -> Result<Tree, TooLarge> {
+        of_all(&[Pair::total(&[1], &[2])], &[v().with(1, trees.to_vec())])
+    }
+
+    fn placed_total(value: i64) -> Result<Tree, TooLarge> {
+        Ok(v().with(2, vec![n(value)]))
+    }
+
+    #[test]
+    fn a_total_is_the_sum_over_the_members() {
+        let trees = [
+            v().with(1, vec![n(1)]).with(2, vec![n(10), n(-3)]),
+            v().with(2, vec![n(11)]),
+            v().with(1, vec![n(1)]).with(2, vec![n(12)]),
+        ];
+        let after = grouped(&[Pair::total(&[2], &[3])], &[Pair::new(&[1], &[1])], &trees).unwrap();
+        assert_eq!(after, [v().with(3, vec![n(11)]), v().with(1, vec![n(1)]).with(3, vec![n(19)])]);
+    }
+
+    #[test]
+    fn other_roots_and_deeper_integers_add_nothing() {
+        let deeper = v().with(1, vec![n(100)]);
+        let others = [v(), Tree::bare(Root::Boolean(true)), Tree::text(b"7"), deeper];
+        assert_eq!(total_of(&[&others[..], &[n(5).with(1, vec![n(100)])]].concat()), placed_total(5));
+        assert_eq!(total_of(&others), Ok(v()));
+    }
+
+    #[test]
+    fn without_an_integer_nothing_is_placed_and_a_sum_of_0_is() {
+        assert_eq!(total_of(&[]), Ok(v()));
+        assert_eq!(of_all(&[Pair::total(&[1], &[2])], &[v()]), Ok(v()));
+        assert_eq!(total_of(&[n(0)]), placed_total(0));
+        assert_eq!(total_of(&[n(7), n(-7)]), placed_total(0));
+        // nothing placed leaves what another pair has placed
+        let pairs = [Pair::new(&[1], &[2]), Pair::total(&[1], &[2])];
+        assert_eq!(of_all(&pairs, &[v().with(1, vec![v()])]), Ok(v().with(2, vec![v()])));
+    }
+
+    #[test]
+    fn the_empty_path_adds_the_members_own_roots() {
+        let trees = [n(4).with(1, vec![n(100)]), v(), n(5)];
+        assert_eq!(of_all(&[Pair::total(&[], &[2])], &trees), placed_total(9));
+    }
+
+    #[test]
+    fn a_longer_path_adds_what_it_gives() {
+        let trees = [
+            v().with(1, vec![v().with(1, vec![n(1), n(2)]), n(50), v().with(1, vec![n(3)])]),
+            v().with(1, vec![]),
+            v().with(1, vec![v().with(1, vec![n(4)])]),
+        ];
+        assert_eq!(of_all(&[Pair::total(&[1, 1], &[2])], &trees), placed_total(10));
+    }
+
+    #[test]
+    fn a_partial_sum_may_leave_64_bits() {
+        assert_eq!(total_of(&[n(i64::MAX), n(1), n(-1)]), placed_total(i64::MAX));
+        assert_eq!(total_of(&[n(i64::MIN), n(i64::MIN), n(i64::MAX), n(1)]), placed_total(i64::MIN));
+        assert_eq!(total_of(&[n(i64::MIN)]), placed_total(i64::MIN));
+        assert_eq!(total_of(&[n(i64::MAX), n(1)]), Err(TooLarge::Total));
+        assert_eq!(total_of(&[n(i64::MIN), n(-1)]), Err(TooLarge::Total));
+        assert_eq!(total_of(&vec![n(i64::MAX); 500]), Err(TooLarge::Total));
+    }
+
+    #[test]
+    fn totals_and_aggregates_merge_in_list_order() {
+        let trees = [v().with(1, vec![n(10), n(12)])];
+        let (all, total) = (Pair::new(&[1], &[2]), Pair::total(&[1], &[2]));
+        assert_eq!(of_all(&[all.clone(), total.clone()], &trees), Ok(v().with(2, vec![n(22), n(12)])));
+        assert_eq!(of_all(&[total, all], &trees), Ok(v().with(2, vec![n(10), n(12)])));
+        let below = [Pair::total(&[1], &[2]), Pair::total(&[1], &[2, 3])];
+        assert_eq!(of_all(&below, &trees), Ok(v().with(2, vec![n(22).with(3, vec![n(22)])])));
+    }
+
+    #[test]
+    fn every_total_is_tested_before_any_tree() {
+        let large = v().with(3, vec![v(); 330]);
+        let past = v().with(1, vec![n(1)]).with(2, vec![n(i64::MAX), n(1)]);
+        let pairs = [Pair::new(&[3], &[3, 3]), Pair::new(&[3], &[4]), Pair::total(&[2], &[2])];
+        let by_1 = [Pair::new(&[1], &[1])];
+        let trees = [large.clone(), large, past];
+        assert_eq!(grouped(&pairs, &by_1, &trees[..2]), Err(TooLarge::Tree));
+        assert_eq!(grouped(&pairs, &by_1, &trees), Err(TooLarge::Total));
+        assert_eq!(grouped(&pairs[..2], &by_1, &trees), Err(TooLarge::Tree));
+    }
+
+    /// Over an accepted grouping the totals of all classes add to the total over the array that entered.
+    #[test]
+    fn totals_of_all_classes_add_to_the_whole() {
+        let keyed = |key: Option<i64>, value: i64| {
+            let tree = v().with(2, vec![n(value)]);
+            key.map_or(tree.clone(), |key| tree.with(1, vec![n(key)]))
+        };
+        let trees =
+            [keyed(Some(1), 5), keyed(None, -9), keyed(Some(2), i64::MAX), keyed(Some(1), 7), keyed(None, 4)];
+        let total = [Pair::total(&[2], &[3])];
+        let classes = grouped(&total, &[Pair::new(&[1], &[1])], &trees).unwrap();
+        let whole: i128 = trees.iter().map(|tree| integer_under(tree, 2)).sum();
+        assert_eq!(classes.len(), 3);
+        assert_eq!(classes.iter().map(|tree| integer_under(tree, 3)).sum::<i128>(), whole);
+    }
+
+    fn integer_under(tree: &Tree, label: u8) -> i128 {
+        match tree.labels[&label][0].root {
+            Root::Integer(value) => value.into(),
+            _ => panic!("no integer"),
+        }
     }
 
     #[test]
@@ -463,7 +626,7 @@ mod tests {
         let items = [Item::Keep(vec![]), Item::Place(Data::Literal(vec![]), vec![2])];
         let over = |voids| v().with(1, vec![v(); voids]);
         assert!(projected(&items, &[over(338)]).is_ok());
-        assert_eq!(projected(&items, &[over(339)]), Err(TooLarge));
+        assert_eq!(projected(&items, &[over(339)]), Err(TooLarge::Tree));
     }
 
     #[test]
@@ -474,7 +637,7 @@ mod tests {
             let items = [(first, vec![1]), (Data::Path(vec![3]), vec![2]), (short.clone(), vec![1])];
             projected(&items.map(|(data, path)| Item::Place(data, path)), &[v().with(3, vec![v(); 330])])
         };
-        assert_eq!(after(long), Err(TooLarge));
+        assert_eq!(after(long), Err(TooLarge::Tree));
         assert!(after(short.clone()).is_ok());
     }
 }

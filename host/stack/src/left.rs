@@ -1,7 +1,7 @@
 //! What a call leaves on the stack of the records that it was lent.
 
 use crate::lending::Lending;
-use reference::bytes::tags;
+use reference::bytes::{fields, tags};
 use std::collections::HashSet;
 
 /// A text and an integer of distinctive bytes, for records.
@@ -44,36 +44,48 @@ impl Runs {
 /// What the bytes of texts and integers are changed by.
 const MASK: u8 = 0x49;
 
-/// An admitted case with other texts and integers, of which the same ones are equal as
-/// before; and whether its query reduces integers, after which others may be.
-pub fn masked(case: &Lending) -> (Lending, bool) {
+/// An admitted case with other texts and integers, of which the same ones are
+/// equal as before.
+pub fn masked(case: &Lending) -> Lending {
     let mut other = case.clone();
-    let [query, arrays @ ..] = &mut other.read;
-    arrays.iter_mut().for_each(|array| {
-        mask(array);
-    });
-    let reduces = mask(query);
-    (other, reduces)
+    other.read.iter_mut().for_each(|area| mask(area));
+    other
 }
 
-/// Changes every byte of every text and integer in some fields. Answers
-/// whether an integer is reduced there.
-fn mask(bytes: &mut [u8]) -> bool {
-    let mut reduces = false;
+/// Changes every byte of every text and integer in some fields.
+fn mask(bytes: &mut [u8]) {
     let mut rest = bytes;
     while let [tag, high, low, behind @ ..] = rest {
         let length = usize::from(u16::from_be_bytes([*high, *low])).min(behind.len());
         let (content, next) = behind.split_at_mut(length);
-        reduces |= *tag == tags::REDUCED;
         match *tag {
             tags::INTEGER | tags::TEXT => content.iter_mut().for_each(|byte| *byte ^= MASK),
             tags::VOID | tags::BOOLEAN | tags::PATH | tags::DIVISOR => {}
-            tags::LABEL => reduces |= mask(&mut content[1..]),
-            _ => reduces |= mask(content),
+            tags::LABEL => mask(&mut content[1..]),
+            _ => mask(content),
         }
         rest = next;
     }
-    reduces
+}
+
+/// Whether the query of an admitted case reduces integers, after which others
+/// may be equal.
+pub fn reduces(case: &Lending) -> bool {
+    stands(&case.read[0], tags::REDUCED)
+}
+
+/// Whether it adds integers: other sums may not fit, or be equal.
+pub fn totals(case: &Lending) -> bool {
+    stands(&case.read[0], tags::TOTAL)
+}
+
+/// Whether a tag stands in some fields of a query.
+fn stands(bytes: &[u8], wanted: u8) -> bool {
+    let Some(all) = fields(bytes) else { return false };
+    all.into_iter().any(|(tag, content)| {
+        let leaf = matches!(tag, tags::ARRAY | tags::PATH | tags::DIVISOR);
+        tag == wanted || (!leaf && stands(content, wanted))
+    })
 }
 
 /// Whether the call groups: the query is read by its stages' tags alone.
@@ -116,7 +128,7 @@ pub fn differing(one: &[u8], other: &[u8]) -> Differing {
 mod tests {
     use super::*;
     use reference::bytes::{decode_array, encode_array, encode_query};
-    use reference::stages::{Criterion, Data, Item, Stage};
+    use reference::stages::{Criterion, Data, Item, Pair, Stage};
     use reference::tree::Tree;
 
     #[test]
@@ -136,18 +148,31 @@ mod tests {
             vec![Tree::void().with(5, under).with(6, vec![])]
         };
         let mut bytes = encode_array(&tree(b"ab", 7)).unwrap();
-        assert!(!mask(&mut bytes));
+        mask(&mut bytes);
         let integer = 7 ^ i64::from_ne_bytes([MASK; 8]);
         assert_eq!(decode_array(&bytes).unwrap(), tree(&[b'a' ^ MASK, b'b' ^ MASK], integer));
     }
 
+    /// A case of a query, whatever else it is lent.
+    fn lending(stages: &[Stage]) -> Lending {
+        let any = Lending::from(reference::generate::Cases::new(1).next().unwrap().0);
+        Lending { read: [encode_query(stages).unwrap(), vec![], vec![]], ..any }
+    }
+
     #[test]
     fn a_reduced_integer_is_seen() {
-        let place = |data| vec![Stage::Project(vec![Item::Place(data, vec![5])])];
-        let mut reduced = encode_query(&place(Data::List(vec![Data::Reduced(vec![5], 10)]))).unwrap();
-        assert!(mask(&mut reduced));
-        let mut none = encode_query(&place(Data::Criterion(Criterion::Exists(vec![45])))).unwrap();
-        assert!(!mask(&mut none));
+        let place = |data| [Stage::Project(vec![Item::Place(data, vec![5])])];
+        assert!(reduces(&lending(&place(Data::List(vec![Data::Reduced(vec![5], 10)])))));
+        assert!(!reduces(&lending(&place(Data::Criterion(Criterion::Exists(vec![45]))))));
+        assert!(!reduces(&lending(&place(Data::Literal(vec![Tree::text(&[45, 0, 0])])))));
+    }
+
+    #[test]
+    fn a_total_is_seen() {
+        let group =
+            |pair| [Stage::Unwind(vec![54]), Stage::Group { aggregates: vec![pair], grouping: vec![] }];
+        assert!(totals(&lending(&group(Pair::total(&[1], &[1])))));
+        assert!(!totals(&lending(&group(Pair::new(&[54], &[54])))));
     }
 
     #[test]
@@ -163,13 +188,9 @@ mod tests {
 
     #[test]
     fn a_group_is_seen() {
-        let lending = |stages: Vec<Stage>| Lending {
-            read: [encode_query(&stages).unwrap(), vec![], vec![]],
-            ..Lending::from(reference::generate::Cases::new(1).next().unwrap().0)
-        };
         let group = || Stage::Group { aggregates: vec![], grouping: vec![] };
-        assert!(groups(&lending(vec![Stage::Unwind(vec![1]), group()])));
-        assert!(!groups(&lending(vec![Stage::Unwind(vec![20])])));
-        assert!(!groups(&lending(vec![])));
+        assert!(groups(&lending(&[Stage::Unwind(vec![1]), group()])));
+        assert!(!groups(&lending(&[Stage::Unwind(vec![20])])));
+        assert!(!groups(&lending(&[])));
     }
 }

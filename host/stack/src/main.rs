@@ -13,7 +13,10 @@
 //! byte of the stack that differs then depends on what the records hold. Where
 //! a query groups, a number of each key decides which trees are compared, so
 //! other records may leave other places behind: there a byte of a record is
-//! known by its mask.
+//! known by its mask. Where it has totals, other records have other sums, of
+//! which one may not fit: such a case is compared only if the second run has
+//! the number of the first. What cases with totals leave is counted apart and
+//! has no bound, since the sum of one integer is that integer.
 
 mod left;
 mod lending;
@@ -21,7 +24,7 @@ mod lent;
 mod painted;
 mod worst;
 
-use left::{differing, distinctive, groups, masked, Runs};
+use left::{differing, distinctive, groups, masked, reduces, totals, Runs};
 use lending::{Call, Lending};
 use lent::Lent;
 use reference::generate::{Cases, RegroupCases};
@@ -68,11 +71,13 @@ struct Kind {
 /// What stayed on the stack, over all calls.
 #[derive(Default)]
 struct Left {
-    /// Places with a run of a record's bytes.
+    /// Places with a run of a record's bytes, of calls without totals and with.
     runs: usize,
-    /// Of calls that do not group, and of those that do.
+    total_runs: usize,
+    /// Of calls that do not group, of those that do, and of those with totals.
     plain: Twice,
     grouping: Twice,
+    totals: Twice,
 }
 
 /// Cases that ran twice, with other records.
@@ -118,23 +123,21 @@ impl Measured {
     /// A random case. One that was admitted is run a second time, with other records.
     fn random(&mut self, lent: &mut Lent, case: &Lending) {
         let number = self.count(lent, case, "random, number #");
-        if matches!(number, 0 | 8..=10) {
-            let (other, reduces) = masked(case);
-            if !reduces {
-                self.left.compare(lent, number, &other);
-            }
+        if matches!(number, 0 | 8..=10 | 12) && !reduces(case) {
+            self.left.compare(lent, number, &masked(case));
         }
     }
 
     /// The cases made to go deep. All integers of their records are equal, so
-    /// what is reduced is equal too.
+    /// what is reduced or added is equal too.
     fn deep(&mut self, lent: &mut Lent) {
         let contents = distinctive();
         let runs = Runs::new(&contents);
         for deep in worst::cases(&contents) {
             let number = self.count(lent, &deep.case, deep.kind);
-            self.left.runs += runs.found_in(lent.stack.left());
-            self.left.compare(lent, number, &masked(&deep.case).0);
+            let found = if totals(&deep.case) { &mut self.left.total_runs } else { &mut self.left.runs };
+            *found += runs.found_in(lent.stack.left());
+            self.left.compare(lent, number, &masked(&deep.case));
             if deep.case.call == Call::Run {
                 self.count(lent, &deep.case.to(Call::CheckQuery), "deep");
                 self.count(lent, &deep.case.to(Call::CheckArray), "deep");
@@ -153,7 +156,7 @@ impl Measured {
     }
 
     fn passes(&self) -> bool {
-        let Left { runs, plain, grouping } = &self.left;
+        let Left { runs, plain, grouping, .. } = &self.left;
         let few = plain.together <= TOGETHER && grouping.of_records <= TOGETHER;
         self.deepest() <= BOUND && *runs == 0 && few
     }
@@ -165,8 +168,11 @@ impl Measured {
             println!("{call:<11} {name:<28} {:>8} {:>8} {:>8}", kind.calls, kind.accepted, kind.deepest);
         }
         println!("deepest use: {} bytes; the bound is {BOUND}", self.deepest());
-        println!("runs of 4 bytes of a record left on the stack: {}", self.left.runs);
-        for (kind, twice) in [("without a group", &self.left.plain), ("with a group", &self.left.grouping)] {
+        let Left { runs, total_runs, plain, grouping, totals } = &self.left;
+        println!("runs of 4 bytes of a record left on the stack: {runs}, with a total {total_runs}");
+        for (kind, twice) in
+            [("without a group", plain), ("with a group", grouping), ("with a total", totals)]
+        {
             let Twice { cases, all, most, together, of_records } = twice;
             println!("cases run twice with other records, {kind}: {cases}");
             println!("  bytes left that differ: {all} in all, {most} in a case at most, {together} together at most");
@@ -180,9 +186,18 @@ impl Left {
     /// is to be compared with.
     fn compare(&mut self, lent: &mut Lent, number: u8, other: &Lending) {
         let left = lent.stack.left().to_vec();
-        assert_eq!(lent.call(other), number, "the number does not depend on which records are equal");
+        let same = lent.call(other) == number;
+        let adds = totals(other);
+        assert!(same || adds, "the number does not depend on which records are equal, unless they are added");
+        if !same {
+            return;
+        }
         let found = differing(&left, lent.stack.left());
-        let twice = if groups(other) { &mut self.grouping } else { &mut self.plain };
+        let twice = match (adds, groups(other)) {
+            (true, _) => &mut self.totals,
+            (false, true) => &mut self.grouping,
+            (false, false) => &mut self.plain,
+        };
         twice.cases += 1;
         twice.all += found.all;
         twice.most = twice.most.max(found.all);

@@ -23,9 +23,10 @@ pub struct Worst {
 
 /// The kinds of the cases that are refused.
 #[cfg(test)]
-pub const REFUSED: [&str; 2] = [FAR, NOT_SUCH];
+pub const REFUSED: [&str; 3] = [FAR, NOT_SUCH, NOT_FITTING];
 const FAR: &str = "refused, far past a limit";
 const NOT_SUCH: &str = "not one such group alone";
+const NOT_FITTING: &str = "totals that do not fit";
 
 type Kinds = Vec<(&'static str, Stage)>;
 
@@ -43,6 +44,7 @@ pub fn cases(contents: &Contents) -> Vec<Worst> {
             }
         }
     }
+    all.extend(not_fitting(&tree, &joined));
     all.extend(refused());
     all.extend(regroups(contents));
     all.extend(no_regroups(contents));
@@ -55,6 +57,13 @@ fn case(stages: &[Stage], tree: &Tree, joined: &Tree) -> Lending {
     let read = [query, array(tree), array(joined)];
     let (work_length, result_length, positions_length) = (WORK_LEAST, ARRAY_LIMIT, POSITIONS_LEAST);
     Lending { call: Call::Run, read, work_length, result_length, positions_length }
+}
+
+/// Totals of two integers, which do not fit together, behind groups and without.
+fn not_fitting(tree: &Tree, joined: &Tree) -> Vec<Worst> {
+    let stages = |groups: usize| [vec![group(&[1], &[1]); groups], vec![totals(PATH_LIMIT)]].concat();
+    let all = (0..STAGES_LIMIT).map(|groups| case(&stages(groups), tree, joined));
+    all.map(|case| Worst { kind: NOT_FITTING, case }).collect()
 }
 
 /// What a regrouping refuses after it has checked how deep it goes: each last
@@ -73,7 +82,7 @@ fn regroups(contents: &Contents) -> Vec<Worst> {
     let integer = vec![Tree::bare(Root::Integer(contents.integer))];
     let all =
         (2..=labels).fold(chain(contents, DEPTH_LIMIT), |tree, label| tree.with(label, integer.clone()));
-    let pair = |label: u8| Pair { source: long(), destination: vec![label] };
+    let pair = |label: u8| Pair::new(&long(), &[label]);
     let of = |aggregates: usize, grouping: usize| {
         let mut pairs = (1..).map(pair);
         let mut take = |number| pairs.by_ref().take(number).collect();
@@ -120,8 +129,17 @@ fn long() -> Vec<u8> {
 }
 
 fn group(source: &[u8], destination: &[u8]) -> Stage {
-    let pair = Pair { source: source.to_vec(), destination: destination.to_vec() };
+    let pair = Pair::new(source, destination);
     Stage::Group { aggregates: vec![pair.clone()], grouping: vec![pair] }
+}
+
+/// As many totals as a group may have, by paths of so many labels. Of a deep
+/// tree 7 labels give an integer and a tree with a text, and 8 give two
+/// integers.
+fn totals(labels: usize) -> Stage {
+    let pair = |label: u8| Pair::total(&vec![1; labels], &[label, 1, 1, 1, 1, 1, 1, 1]);
+    let aggregates = (2..).map(pair).take(AGGREGATES_LIMIT).collect();
+    Stage::Group { aggregates, grouping: vec![Pair::new(&long(), &long())] }
 }
 
 /// Stages that keep the tree as deep as it is.
@@ -144,6 +162,7 @@ fn last_stages(contents: &Contents) -> Kinds {
         ("merge at depth 16", Stage::Project(vec![Item::Keep(vec![]), place(Data::Path(vec![1]))])),
         ("group by 8 labels", group(&long(), &long())),
         ("group of trees of depth 16", group(&[1], &[1])),
+        ("totals by 7 labels", totals(PATH_LIMIT - 1)),
         ("lookup by 8 labels", Stage::Lookup { q: long(), r: long(), p: long() }),
         ("lookup that finds a tree", Stage::Lookup { q: vec![9], r: vec![9], p: long() }),
     ];

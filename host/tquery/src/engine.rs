@@ -115,10 +115,10 @@ impl<'a> Engine<'a> {
     }
 
     /// Groups two arrays again as one: the trees of the first and then those
-    /// of the second, by a query that is one group alone, each destination of
-    /// which, now also the source, is a single label that no other has. It
-    /// gives the length of the result, which then stands at the start of the
-    /// result area; the bytes behind it are as they were.
+    /// of the second, by a query that is one group alone without a total, each
+    /// destination of which, now also the source, is a single label that no
+    /// other has. It gives the length of the result, which then stands at the
+    /// start of the result area; the bytes behind it are as they were.
     ///
     /// Of the results of two trays it makes that of both; see
     /// [`Trays`](crate::Trays), which does it for a day. The arrays may be any.
@@ -126,8 +126,8 @@ impl<'a> Engine<'a> {
     /// The refusals are those of a run, in another order where they differ:
     /// [`Refusal::QueryMalformed`] is also a query that is not one such group
     /// alone, [`Refusal::InputLong`] and [`Refusal::InputMalformed`] are of the
-    /// first array and then of the second, none is of a joined array, and
-    /// [`Refusal::GroupLong`], of the two joined, goes before
+    /// first array and then of the second, none is of a joined array or of a
+    /// total, and [`Refusal::GroupLong`], of the two joined, goes before
     /// [`Refusal::TreeLarge`]. [`Refusal::regroup_words`] has the words.
     ///
     /// ```

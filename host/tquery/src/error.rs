@@ -23,8 +23,11 @@ pub enum BuildError {
     TreeDeep(usize),
     /// An array would take this many bytes.
     ArrayLong(usize),
-    /// A destination is the empty path: of a place, of a pair, or of a lookup.
+    /// A destination is the empty path: of a place, of a pair, of a total, or
+    /// of a lookup.
     DestinationEmpty(&'static str),
+    /// A total stands among the grouping pairs of a group.
+    TotalInGrouping,
     /// The divisor of reduced data is out of range.
     Divisor(u16),
     /// Criteria and data would be nested this deep.
@@ -66,6 +69,9 @@ impl fmt::Display for BuildError {
             }
             BuildError::DestinationEmpty(what) => {
                 write!(out, "the destination of a {what} is the empty path; it needs a label")
+            }
+            BuildError::TotalInGrouping => {
+                write!(out, "a total among the grouping pairs; it may only be an aggregate")
             }
             BuildError::Divisor(found) => {
                 write!(out, "a divisor of {found}; it runs from 1 to {}", limits::DIVISOR)

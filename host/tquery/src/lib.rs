@@ -3,7 +3,7 @@
 //! The engine runs a query of 0 to 8 stages (match, unwind, project, group
 //! and lookup, after Tquery) over an array of trees, with one joined array,
 //! and writes an array, and where each of its trees came from, or refuses by
-//! one of eleven numbers. It is written in Rattle and proved against the
+//! one of twelve numbers. It is written in Rattle and proved against the
 //! definitions of its scope, "document 01" and the requests of "document 02";
 //! it takes no heap and keeps no state.
 //!
@@ -16,14 +16,15 @@
 //!   [`check_query`] only check.
 //! - [`Path`], [`Criterion`], [`Data`], [`Item`], [`Pair`], [`Stage`] and
 //!   [`Query`] build a query, so that nobody counts bytes. What has no byte
-//!   form is a [`BuildError`], which says why.
+//!   form is a [`BuildError`], which says why. Of a group's aggregates some may
+//!   be totals, by [`Pair::total`]: edge lengths added per job.
 //! - [`Tree`], [`Root`] and [`Array`] are the data, with their byte form both
 //!   ways and document 01's notation both ways: `v{1:[5, 6], 2:[]}`.
 //! - [`Line`] is a tree of a result with the position of the input tree that it
 //!   stems from: what a maker prints beside it.
 //! - [`Trays`] makes one list of a day whose records come in trays, each an
 //!   array, and are too many for one; [`Engine::regroup`] is the call for it.
-//! - [`Refusal`] has the eleven causes, with the documents' numbers and words.
+//! - [`Refusal`] has the twelve causes, with the documents' numbers and words.
 //!
 //! Nothing here panics, whatever it is given. What is proved is the engine;
 //! this crate is tested, and its unsafe code is one small module.

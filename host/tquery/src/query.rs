@@ -6,9 +6,10 @@ use crate::path::Path;
 use crate::tree::Array;
 use crate::{limits, tags};
 
-/// The names of the three that have a destination, for the mistake's words.
+/// The names of those that have a destination, for the mistake's words.
 const PLACE: &str = "place";
 const PAIR: &str = "pair";
+const TOTAL: &str = "total";
 const LOOKUP: &str = "lookup";
 
 /// A test that a tree meets or does not meet.
@@ -136,18 +137,55 @@ impl Item {
 }
 
 /// A source in the trees that enter a group, and a destination in those that leave it.
+///
+/// As an aggregate it places all that the source gives of the members of a
+/// class, or, if it is a total, their sum; as a grouping pair, which no total
+/// is, the value that the members share.
 #[derive(Clone, Debug, PartialEq, Eq)]
-pub struct Pair(Field);
+pub struct Pair {
+    field: Field,
+    total: bool,
+}
 
 impl Pair {
     /// From a source to a destination that is not the empty path.
     pub fn new(source: Path, destination: Path) -> Pair {
-        Pair(Field::of(tags::PAIR, &[source.into(), target(destination, PAIR)]))
+        let field = Field::of(tags::PAIR, &[source.into(), target(destination, PAIR)]);
+        Pair { field, total: false }
     }
 
     /// From a path to the same path, which is not the empty one.
     pub fn same(path: Path) -> Pair {
         Pair::new(path.clone(), path)
+    }
+
+    /// A total, for the aggregates of a group: at a destination that is not the
+    /// empty path, one integer, the sum of the integer roots of the trees that
+    /// the source gives of the members of a class.
+    ///
+    /// Other roots add nothing, and nor do the roots of trees below these.
+    /// Without an integer root nothing is placed; a sum of 0 is. The sum is
+    /// exact, and may leave 64 bits on the way: a run is refused with
+    /// [`Refusal::TotalLarge`](crate::Refusal::TotalLarge) only if the total of
+    /// some class does not fit at the end.
+    ///
+    /// ```
+    /// use tquery::{limits, Array, Engine, Pair, Path, Query};
+    ///
+    /// # fn main() -> Result<(), Box<dyn std::error::Error>> {
+    /// let (job, edge) = (Path::new([1])?, Path::new([2])?);
+    /// let per_job = Query::new().group([Pair::total(edge.clone(), edge)], [Pair::same(job)]);
+    /// let edges: Array = "[v{1:[7], 2:[5210, 5198]}, v{1:[8]}, v{1:[7], 2:[4730]}]".parse()?;
+    ///
+    /// let mut work = vec![0; limits::WORK];
+    /// let list = Engine::new(&mut work).run_trees(&per_job, &edges, &Array::new())?;
+    /// assert_eq!(list.to_string(), "[v{1:[7], 2:[15138]}, v{1:[8]}]");
+    /// # Ok(())
+    /// # }
+    /// ```
+    pub fn total(source: Path, destination: Path) -> Pair {
+        let field = Field::of(tags::TOTAL, &[source.into(), target(destination, TOTAL)]);
+        Pair { field, total: true }
     }
 }
 
@@ -174,13 +212,16 @@ impl Stage {
     }
 
     /// Makes one tree of those whose grouping sources (0 to 4) are equal, with
-    /// the aggregates (0 to 8) of all of them.
+    /// the aggregates (0 to 8) of all of them, totals among these.
     pub fn group(
         aggregates: impl IntoIterator<Item = Pair>,
         grouping: impl IntoIterator<Item = Pair>,
     ) -> Stage {
+        let grouping: Vec<Pair> = grouping.into_iter().collect();
+        let total = grouping.iter().any(|pair| pair.total);
         let aggregates = pairs(tags::AGGREGATES, aggregates, "aggregates", limits::AGGREGATES);
         let grouping = pairs(tags::GROUPING, grouping, "grouping pairs", limits::GROUPING);
+        let grouping = grouping.unless(total, BuildError::TotalInGrouping);
         Stage(Field::of(tags::GROUP, &[aggregates, grouping]))
     }
 
@@ -287,6 +328,6 @@ fn target(path: Path, of: &'static str) -> Field {
 
 /// The pairs of a group, in one field.
 fn pairs(tag: u8, pairs: impl IntoIterator<Item = Pair>, what: &'static str, most: usize) -> Field {
-    let pairs: Vec<Field> = pairs.into_iter().map(|pair| pair.0).collect();
+    let pairs: Vec<Field> = pairs.into_iter().map(|pair| pair.field).collect();
     Field::of(tag, &pairs).counted(what, pairs.len(), 0, most)
 }

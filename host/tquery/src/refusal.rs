@@ -4,12 +4,15 @@ use std::error::Error;
 use std::fmt;
 
 /// Why the engine refused a call: the ten causes of document 01's table, and
-/// number 11 of document 02.
+/// numbers 11 and 12 of document 02.
 ///
-/// A run tests them in the order of their numbers, but 11 between 1 and 2. What
-/// is said of the result area holds of the position area too. The words of
-/// `Display` are the table's. A regrouping has other causes for some of the numbers, which
-/// [`Refusal::regroup_words`] says.
+/// A run tests them in the order of their numbers, but 11 between 1 and 2, and
+/// 12 before 8. From 8 on they come of the run itself: there the first stretch
+/// with a fault decides, which is the stages before the first group or a group
+/// with the stages up to the next, and 9 counts to the stretch that yields the
+/// array. What is said of the result area holds of the position area too. The
+/// words of `Display` are the table's. A regrouping has other causes for some
+/// of the numbers, which [`Refusal::regroup_words`] says.
 #[derive(Clone, Copy, Debug, PartialEq, Eq, Hash)]
 #[non_exhaustive]
 pub enum Refusal {
@@ -18,8 +21,8 @@ pub enum Refusal {
     /// 2: the query has over 4,096 bytes. The result area is as it was.
     QueryLong,
     /// 3: the query is not the byte form of any query; or, of a regrouping, it
-    /// is not one group alone whose destinations are single, distinct labels.
-    /// The result area is as it was.
+    /// is not one group alone, without a total, whose destinations are single,
+    /// distinct labels. The result area is as it was.
     QueryMalformed,
     /// 4: the input, or an array that is regrouped, has over 16,384 bytes. The
     /// result area is as it was.
@@ -43,6 +46,11 @@ pub enum Refusal {
     /// 11: the position area has under 2,730 entries. All areas are as they
     /// were. It does not come of a regrouping, which takes no position area.
     PositionsShort,
+    /// 12: the total of some class of a group does not fit a signed 64-bit
+    /// integer. It is tested where the group begins, after 9 of the array that
+    /// enters it and before 8 of any tree that it makes. The result area is all
+    /// zero. It does not come of a regrouping, which takes no total.
+    TotalLarge,
     /// A number that is in neither document's table. The engine that this crate
     /// was written for never gives one; a later engine may.
     Unlisted(u32),
@@ -50,7 +58,7 @@ pub enum Refusal {
 
 impl Refusal {
     /// All of them, number 1 first.
-    pub const ALL: [Refusal; 11] = [
+    pub const ALL: [Refusal; 12] = [
         Refusal::WorkShort,
         Refusal::QueryLong,
         Refusal::QueryMalformed,
@@ -62,6 +70,7 @@ impl Refusal {
         Refusal::GroupLong,
         Refusal::ResultLong,
         Refusal::PositionsShort,
+        Refusal::TotalLarge,
     ];
 
     /// The documents' number of this refusal.
@@ -78,6 +87,7 @@ impl Refusal {
             Refusal::GroupLong => 9,
             Refusal::ResultLong => 10,
             Refusal::PositionsShort => 11,
+            Refusal::TotalLarge => 12,
             Refusal::Unlisted(number) => number,
         }
     }
@@ -96,6 +106,7 @@ impl Refusal {
             Refusal::GroupLong => "array entering a group over 16,384 bytes",
             Refusal::ResultLong => "final array over 16,384 bytes or over the result area",
             Refusal::PositionsShort => "position area under 2,730 entries",
+            Refusal::TotalLarge => "a total does not fit a signed 64-bit integer",
             Refusal::Unlisted(_) => "a cause that this crate does not know",
         }
     }
@@ -112,7 +123,7 @@ impl Refusal {
     pub fn regroup_words(self) -> &'static str {
         match self {
             Refusal::QueryMalformed => {
-                "query malformed, or not one group alone with single, distinct destinations"
+                "query malformed, or not one group alone, without a total, with single, distinct destinations"
             }
             Refusal::InputLong => "first or second array over 16,384 bytes",
             Refusal::InputMalformed => "first or second array malformed, tree limits included",

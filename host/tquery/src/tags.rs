@@ -1,4 +1,4 @@
-//! The tags of document 01's byte form.
+//! The tags of document 01's byte form, and document 02's.
 
 pub const ARRAY: u8 = 1;
 pub const TREE: u8 = 2;
@@ -38,3 +38,4 @@ pub const PLACE: u8 = 48;
 pub const PAIR: u8 = 49;
 pub const AGGREGATES: u8 = 50;
 pub const GROUPING: u8 = 51;
+pub const TOTAL: u8 = 54;

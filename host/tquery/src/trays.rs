@@ -41,10 +41,11 @@ use list::{packed, trees_of, EMPTY};
 ///   # }
 ///   ```
 ///
-/// - It ends in its only group, and the destinations of that, of aggregates
-///   and grouping pairs together, are single labels, no two equal. Each result
-///   is grouped again with the list so far, by [`Engine::regroup`]. So the list
-///   is one array, and a result that does not fit into one with it is refused:
+/// - It ends in its only group, which has no total and whose destinations, of
+///   aggregates and grouping pairs together, are single labels, no two equal.
+///   Each result is grouped again with the list so far, by [`Engine::regroup`].
+///   So the list is one array, and a result that does not fit into one with it
+///   is refused:
 ///
 ///   ```
 ///   use tquery::{limits, Array, Engine, Pair, Path, Query, Trays};

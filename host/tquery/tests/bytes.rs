@@ -128,6 +128,20 @@ fn p6_group() {
     assert_eq!(stage(Stage::group([], [])), hex("14 0006 32 0000 33 0000"));
 }
 
+/// A total has tag 54, 36 in hexadecimal, and the same two paths; pairs of both kinds stand in list order.
+#[test]
+fn totals() {
+    let total = Pair::total(path("2"), path("3"));
+    let form = hex("14 0011 32 000b 36 0008 20 0001 02 20 0001 03 33 0000");
+    assert_eq!(stage(Stage::group([total.clone()], [])), form);
+    let both = Stage::group([Pair::same(path("2")), total, Pair::same(path("4"))], []);
+    let pairs = "31 0008 20 0001 02 20 0001 02 36 0008 20 0001 02 20 0001 03 31 0008 20 0001 04 20 0001 04";
+    let form = hex(&format!("14 0027 32 0021 {pairs} 33 0000"));
+    assert_eq!(stage(both), form);
+    let along = Stage::group([Pair::total(Path::empty(), path("5.6"))], []);
+    assert_eq!(stage(along), hex("14 0011 32 000b 36 0008 20 0000 20 0002 0506 33 0000"));
+}
+
 #[test]
 fn p7_lookup() {
     let lookup = Stage::lookup(path("1"), path("1"), path("3"));

@@ -54,10 +54,14 @@ fn nesting() {
 fn counts() {
     let items = |count| takes(19, &field(47, &path(&[1])).repeat(count));
     let list = |count| places(&field(42, &field(41, &path(&[1])).repeat(count)), &[1]);
+    let pair = |tag| field(tag, &[path(&[1]), path(&[1])].concat());
     let group = |aggregates, grouping| {
-        let pair = field(49, &[path(&[1]), path(&[1])].concat());
-        let (left, right) = (pair.repeat(aggregates), pair.repeat(grouping));
+        let (left, right) = (pair(49).repeat(aggregates), pair(49).repeat(grouping));
         takes(20, &[field(50, &left), field(51, &right)].concat())
+    };
+    let totals = |pairs, totals| {
+        let aggregates = [pair(49).repeat(pairs), pair(54).repeat(totals)].concat();
+        takes(20, &[field(50, &aggregates), field(51, &[])].concat())
     };
     let stages = |count| check_query(&field(16, &field(18, &path(&[1])).repeat(count))).is_ok();
     assert_eq!([0, 1, limits::ITEMS, limits::ITEMS + 1].map(items), [false, true, true, false]);
@@ -65,15 +69,21 @@ fn counts() {
     assert_eq!([0, limits::STAGES, limits::STAGES + 1].map(stages), [true, true, false]);
     assert!(group(0, 0) && group(limits::AGGREGATES, limits::GROUPING));
     assert!(!group(limits::AGGREGATES + 1, 0) && !group(0, limits::GROUPING + 1));
+    // a total counts as any other aggregate
+    for count in 0..=limits::AGGREGATES {
+        assert!(totals(limits::AGGREGATES - count, count) && !totals(limits::AGGREGATES - count, count + 1));
+    }
 }
 
 #[test]
 fn destinations_and_divisors() {
     let bare = field(41, &path(&[1]));
     assert!(places(&bare, &[1]) && !places(&bare, &[]));
-    let pair = |to: &[u8]| field(49, &[path(&[]), path(to)].concat());
-    let group = |to: &[u8]| takes(20, &[field(50, &pair(to)), field(51, &[])].concat());
-    assert!(group(&[1]) && !group(&[]));
+    for tag in [49, 54] {
+        let pair = |to: &[u8]| field(tag, &[path(&[]), path(to)].concat());
+        let group = |to: &[u8]| takes(20, &[field(50, &pair(to)), field(51, &[])].concat());
+        assert!(group(&[1]) && !group(&[]));
+    }
     let lookup = |to: &[u8]| takes(21, &[path(&[]), path(&[]), path(to)].concat());
     assert!(lookup(&[1]) && !lookup(&[]));
     let reduced = |divisor: u16| {

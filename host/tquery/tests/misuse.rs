@@ -90,6 +90,8 @@ fn counts() {
     fails(list(0), count("members of a list", 0, 1, 8));
     fails(list(9), count("members of a list", 9, 1, 8));
     fails(group(9, 0), count("aggregates", 9, 0, 8));
+    let ninth = [Pair::total(path("1"), path("1"))].into_iter().chain(vec![Pair::same(path("1")); 8]);
+    fails(Query::new().group(ninth, []), count("aggregates", 9, 0, 8));
     fails(group(0, 5), count("grouping pairs", 5, 0, 4));
     fails(stages(9), count("stages of a query", 9, 0, 8));
 }
@@ -99,9 +101,20 @@ fn destinations_and_divisors() {
     let empty = Path::empty;
     fails(Query::new().project([Item::place(path("1"), empty())]), BuildError::DestinationEmpty("place"));
     fails(Query::new().group([Pair::new(path("1"), empty())], []), BuildError::DestinationEmpty("pair"));
+    fails(Query::new().group([Pair::total(path("1"), empty())], []), BuildError::DestinationEmpty("total"));
     fails(Query::new().lookup(empty(), empty(), empty()), BuildError::DestinationEmpty("lookup"));
     fails(project(Data::reduced(path("1"), 0)), BuildError::Divisor(0));
     fails(project(Data::reduced(path("1"), 10_001)), BuildError::Divisor(10_001));
+}
+
+#[test]
+fn a_total_among_the_grouping_pairs() {
+    let (pair, total) = (|| Pair::same(path("1")), |to| Pair::total(path("2"), to));
+    fails(Query::new().group([], [total(path("2"))]), BuildError::TotalInGrouping);
+    fails(Query::new().group([total(path("2"))], [pair(), total(path("3"))]), BuildError::TotalInGrouping);
+    // mistakes of the pairs themselves come first
+    fails(Query::new().group([], [total(Path::empty())]), BuildError::DestinationEmpty("total"));
+    assert!(Query::new().group([total(path("2")), total(path("2"))], [pair()]).encode().is_ok());
 }
 
 #[test]
@@ -129,6 +142,10 @@ fn mistakes_have_words() {
     assert_eq!(
         words(BuildError::DestinationEmpty("pair")),
         "the destination of a pair is the empty path; it needs a label"
+    );
+    assert_eq!(
+        words(BuildError::TotalInGrouping),
+        "a total among the grouping pairs; it may only be an aggregate"
     );
     assert_eq!(
         words(BuildError::Count { what: "stages of a query", found: 9, least: 0, most: 8 }),

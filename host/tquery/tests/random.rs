@@ -96,9 +96,17 @@ impl Draws {
         self.times(0, 3, |draws| Pair::new(draws.path(0), draws.path(1)))
     }
 
+    /// Pairs of which some are totals.
+    fn aggregates(&mut self) -> Vec<Pair> {
+        self.times(0, 3, |draws| {
+            let kind = if draws.below(2) == 0 { Pair::new } else { Pair::total };
+            kind(draws.path(0), draws.path(1))
+        })
+    }
+
     fn stage(&mut self) -> Stage {
         match self.below(5) {
-            0 => Stage::group(self.pairs(), self.pairs()),
+            0 => Stage::group(self.aggregates(), self.pairs()),
             _ => self.stage_but_group(),
         }
     }
@@ -189,6 +197,45 @@ fn a_query_may_be_cut_anywhere() {
         assert_eq!(engine.run_trees(&query(&stages), &input, &joined), Ok(last), "{stages:?}");
     }
     assert!(compared > 500, "only {compared} had a result to compare");
+}
+
+/// The integer roots of the trees that a path gives of a tree.
+fn integers(tree: &Tree, path: &[u8]) -> Vec<i64> {
+    match (path, tree.root()) {
+        ([], Root::Integer(value)) => vec![*value],
+        ([], _) => vec![],
+        ([label, rest @ ..], _) => {
+            let under = tree.get(*label).into_iter().flatten();
+            under.flat_map(|tree| integers(tree, rest)).collect()
+        }
+    }
+}
+
+/// Document 02's totals: over an accepted grouping those of all classes add to the total over the array that entered.
+#[test]
+fn totals_of_all_classes_add_to_the_whole() {
+    let mut draws = Draws(7);
+    let mut work = vec![0; limits::WORK];
+    let mut engine = Engine::new(&mut work);
+    let apart = Path::new([200]).expect("a path");
+    let (mut compared, mut refused) = (0, 0);
+    for _ in 0..3_000 {
+        let (source, input) = (draws.path(0), draws.array(8));
+        let query = Query::new().group([Pair::total(source.clone(), apart.clone())], draws.pairs());
+        let whole: Vec<i64> = input.iter().flat_map(|tree| integers(tree, source.labels())).collect();
+        let sum = |values: &[i64]| values.iter().map(|value| i128::from(*value)).sum::<i128>();
+        match engine.run_trees(&query, &input, &Array::new()) {
+            Ok(classes) => {
+                let totals: Vec<i64> =
+                    classes.iter().flat_map(|tree| integers(tree, apart.labels())).collect();
+                assert_eq!(sum(&totals), sum(&whole), "{query:?} over {input}");
+                assert_eq!(totals.is_empty(), whole.is_empty(), "{query:?} over {input}");
+                compared += usize::from(totals.len() > 1);
+            }
+            Err(error) => refused += usize::from(error == Error::Refused(Refusal::TotalLarge)),
+        }
+    }
+    assert!(compared > 200 && refused > 20, "{compared} had totals to add, {refused} were refused with 12");
 }
 
 /// The lines that bear a position.

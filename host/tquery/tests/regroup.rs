@@ -99,6 +99,8 @@ fn a_query_that_is_not_one_such_group_alone_is_refused_with_3() {
     refused(group(&[("1", "3"), ("2", "3")], &[]));
     refused(group(&[], &[("1", "3"), ("2", "3")]));
     refused(group(&[("1", "3")], &[("2", "3")]));
+    refused(Query::new().group([Pair::total(path("1"), path("1"))], [pair("2", "2")]));
+    refused(Query::new().group([pair("1", "1"), Pair::total(path("3"), path("3"))], []));
 }
 
 #[test]
@@ -106,7 +108,7 @@ fn refusals_have_their_own_words() {
     let words = |refusal| Error::Regroup(refusal).to_string();
     assert_eq!(
         words(Refusal::QueryMalformed),
-        "refused 3: query malformed, or not one group alone with single, distinct destinations"
+        "refused 3: query malformed, or not one group alone, without a total, with single, distinct destinations"
     );
     assert_eq!(words(Refusal::GroupLong), "refused 9: the two arrays joined over 16,384 bytes");
     assert_eq!(words(Refusal::WorkShort), Refusal::WorkShort.to_string());
@@ -159,6 +161,7 @@ fn bytes(trees: impl Into<Array>) -> Vec<u8> {
 fn refusals_come_in_their_order() {
     let such = group(&[("1", "1")], &[]).encode().expect("a query");
     let two = group(&[("1", "1.2")], &[]).encode().expect("a query");
+    let total = Query::new().group([Pair::total(path("1"), path("1"))], []).encode().expect("a query");
     let (long, bad) = (vec![1; limits::ARRAY + 1], vec![1, 0, 1]);
     let (half, one) = (bytes(vec![sized(1_500); 6]), bytes([sized(1_500)]));
     let call = |query: &[u8], first: &[u8], second: &[u8]| {
@@ -171,6 +174,7 @@ fn refusals_come_in_their_order() {
     assert_eq!(call(&[16; limits::QUERY + 1], &long, &long).number(), 2);
     assert_eq!(call(&[16; limits::QUERY], &long, &long).number(), 3);
     assert_eq!(call(&two, &long, &long).number(), 3);
+    assert_eq!(call(&total, &long, &long).number(), 3);
     assert_eq!(call(&such, &long, &bad).number(), 4);
     assert_eq!(call(&such, &bad, &long).number(), 5, "the first array's 5 goes before the second's 4");
     assert_eq!(call(&such, &half, &long).number(), 4);

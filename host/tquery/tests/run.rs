@@ -174,7 +174,7 @@ impl Call {
         let number = outcome.map_or_else(Refusal::number, |_| 0);
         let all = |area: &[u8], value| area.iter().all(|byte| *byte == value);
         assert!(all(&work, if matches!(number, 1 | 11) { 0xaa } else { 0 }), "the work area after {number}");
-        let left = if matches!(number, 8..=10) { 0 } else { 0xaa };
+        let left = if matches!(number, 8..=10 | 12) { 0 } else { 0xaa };
         assert!(number == 0 || all(&result, left), "the result area after {number}");
         let left = u16::from_ne_bytes([left; 2]);
         let kept = positions.iter().all(|entry| *entry == left);
@@ -190,6 +190,8 @@ fn every_refusal_is_reached() {
         .encode()
         .expect("a query");
     let grouped = Query::new().unwind(path("1")).unwind(path("2")).group([], []).encode().expect("a query");
+    let total = Query::new().group([Pair::total(path("1"), path("1"))], []).encode().expect("a query");
+    let past = array("[v{1:[9223372036854775807, 1]}]").encode().expect("an array");
     let big = Tree::void().with(1, Array::from(vec![Tree::void(); 300])).expect("a tree");
     let big = Array::from([big]).encode().expect("an array");
     let hundreds = hundreds().encode().expect("an array");
@@ -208,6 +210,7 @@ fn every_refusal_is_reached() {
     assert_eq!(Call { query: twice, input: big, result: 9_999, positions: far, ..Call::new() }.number(), 8);
     assert_eq!(Call { query: grouped, input: hundreds, positions: far, ..Call::new() }.number(), 9);
     assert_eq!(Call { result: 2, positions: far, ..Call::new() }.number(), 10);
+    assert_eq!(Call { query: total, input: past, result: 9_999, positions: far, ..Call::new() }.number(), 12);
     assert_eq!(Call { result: 0, work: 0, positions: 0, ..Call::new() }.number(), 1);
 }
 
@@ -226,6 +229,7 @@ fn refusals_have_numbers_and_words() {
     assert_eq!(Refusal::WorkShort.to_string(), "refused 1: work area under 65,536 bytes");
     assert_eq!(Refusal::TreeLarge.to_string(), "refused 8: tree too large in a stretch");
     assert_eq!(Refusal::PositionsShort.to_string(), "refused 11: position area under 2,730 entries");
+    assert_eq!(Refusal::TotalLarge.to_string(), "refused 12: a total does not fit a signed 64-bit integer");
     let error: Box<dyn std::error::Error> = Box::new(Error::Refused(Refusal::QueryMalformed));
     assert_eq!(error.to_string(), "refused 3: query malformed");
 }

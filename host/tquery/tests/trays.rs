@@ -64,6 +64,10 @@ fn other_queries_are_an_error_in_words() {
         error("two destinations of the last group are label 3; for trays all are distinct")
     );
     assert_eq!(
+        words(Query::new().group([pair("1", "1"), Pair::total(path("2"), path("2"))], [])),
+        error("aggregate 2 of the last group is a total; for trays none may be one")
+    );
+    assert_eq!(
         words(Query::new().project([])),
         error("the number of items of a project is 0; it runs from 1 to 16")
     );

@@ -30,10 +30,10 @@ trays: one list of a day whose records come in trays
         joined again.
 
 QUERY, JOINED, TRAY and RESULTS are files of byte forms. A query is good for
-trays if it has no group, or ends in its only group and the destinations of
-that are single labels, no two equal. Without a group the list is written as
-arrays of at most 16,384 bytes, each with as many trees as fit; with one it is
-one array. The list of no tray is the empty array.
+trays if it has no group, or ends in its only group, which has no total and
+whose destinations are single labels, no two equal. Without a group the list is
+written as arrays of at most 16,384 bytes, each with as many trees as fit; with
+one it is one array. The list of no tray is the empty array.
 
 Nothing is written unless all went well. Status:
 

@@ -145,6 +145,11 @@ fn other_failures_have_statuses_above_the_numbers() {
     let words = "the query: stage 1 is a group and not the last stage; for trays only the last may be one";
     room.fails("map inside none none", &[], 65, words);
     room.fails("join inside", &[], 65, words);
+    let total = Pair::total(path("1"), path("1"));
+    room.query("total", Query::new().unwind(path("2")).group([pair("2", "2"), total], []));
+    let words = "the query: aggregate 2 of the last group is a total; for trays none may be one";
+    room.fails("map total none none", &[], 65, words);
+    room.fails("join total", &[], 65, words);
     for words in ["map missing none", "map group missing", "map group none missing", "join group missing"] {
         room.fails(words, &[], 66, "missing: No such file or directory (os error 2)");
     }

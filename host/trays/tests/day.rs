@@ -100,7 +100,7 @@ fn lines() -> Vec<Stage> {
 
 /// By lens, the records that are urgent; those without a lens too.
 fn lenses() -> Vec<Stage> {
-    let pair = |from, to| Pair { source: vec![from], destination: vec![to] };
+    let pair = |from, to| Pair::new(&[from], &[to]);
     let grouped = Stage::Group { aggregates: vec![pair(URGENT, NUMBER)], grouping: vec![pair(LENS, LENS)] };
     vec![Stage::Match(Criterion::Exists(vec![NUMBER])), grouped]
 }

@@ -53,6 +53,8 @@ pub enum Item<'a> {
 pub struct Pair<'a> {
     pub source: Path<'a>,
     pub target: Path<'a>,
+    /// Whether the sum of what the source gives is placed, and not that itself.
+    pub total: bool,
 }
 
 pub enum Stage<'a> {
@@ -115,11 +117,16 @@ fn divisor((tag, content): Field) -> Option<u64> {
 
 fn pair((tag, content): Field) -> Option<Pair> {
     let [s, t] = fields(content)?;
-    (tag == 49).then_some(Pair { source: path(s)?, target: target(t)? })
+    matches!(tag, 49 | 54).then_some(Pair { source: path(s)?, target: target(t)?, total: tag == 54 })
 }
 
 fn pairs((tag, content): Field, want: u8, most: usize) -> Option<Vec<Pair>> {
     (tag == want).then(|| each(content, most, pair)).flatten()
+}
+
+/// The grouping pairs, of which none is a total.
+fn keys(field: Field) -> Option<Vec<Pair>> {
+    pairs(field, 51, 4).filter(|pairs| pairs.iter().all(|pair| !pair.total))
 }
 
 /// The nodes of the criteria and data that were read.
@@ -243,7 +250,7 @@ impl<'a> Reader<'a> {
             19 => Stage::Project(each(content, 16, |i| self.item(i)).filter(|items| !items.is_empty())?),
             20 => {
                 let [a, g] = fields(content)?;
-                Stage::Group { aggregates: pairs(a, 50, 8)?, grouping: pairs(g, 51, 4)? }
+                Stage::Group { aggregates: pairs(a, 50, 8)?, grouping: keys(g)? }
             }
             21 => {
                 let [q, r, p] = fields(content)?;

@@ -2,9 +2,9 @@
 
 use super::bytes::{trees, ARRAY, VOID};
 use super::index::{Index, Lists};
-use super::query::{Node, Pair, Query, Stage};
-use super::read::{append, holds};
-use super::write::{place, unwind, write_item, Build};
+use super::query::{Node, Pair, Path, Query, Stage};
+use super::read::{append, apply, holds};
+use super::write::{place, unwind, write_item, write_total, Build};
 use super::{Refused, POSITIONS};
 
 /// What leaves a stretch, one tree behind another, and where each came from. That it is too long is only noted:
@@ -145,8 +145,44 @@ fn classes<'a>(grouping: &[Pair], array: &'a [u8]) -> (Vec<(usize, usize)>, List
     (found, lists)
 }
 
+/// The sum of the integer roots of the trees that a path gives of some trees, if there is one. Refusal 12 if it does
+/// not fit.
+fn total<'a>(path: &[u8], members: impl Iterator<Item = &'a [u8]>) -> Result<Option<i64>, Refused> {
+    let (mut sum, mut any) = (0i128, false);
+    for member in members {
+        apply(path, member, &mut |piece| {
+            for tree in trees(piece) {
+                if tree[3] == 5 {
+                    let mut bytes = [0; 8];
+                    bytes.copy_from_slice(&tree[6..14]);
+                    sum += i128::from(i64::from_be_bytes(bytes));
+                    any = true;
+                }
+            }
+        });
+    }
+    let sum = i64::try_from(sum).map_err(|_| 12u32)?;
+    Ok(any.then_some(sum))
+}
+
+/// The totals of all classes, class by class and pair by pair.
+fn all_totals(
+    aggregates: &[Pair],
+    found: &[(usize, usize)],
+    lists: &Lists,
+) -> Result<Vec<Option<i64>>, Refused> {
+    let sources: Vec<Path> = aggregates.iter().filter(|pair| pair.total).map(|pair| pair.source).collect();
+    let mut totals = Vec::with_capacity(sources.len() * found.len());
+    for (_, number) in found {
+        for source in &sources {
+            totals.push(total(source, lists.list(*number))?);
+        }
+    }
+    Ok(totals)
+}
+
 /// Groups the trees of an array and feeds what that gives to the stretch behind the group, each with the position
-/// of the first member.
+/// of the first member. The totals of all classes are taken first, since each is tested before any tree is.
 fn group(
     aggregates: &[Pair],
     grouping: &[Pair],
@@ -155,10 +191,16 @@ fn group(
     sink: &mut Sink,
 ) -> Result<(), Refused> {
     let (found, lists) = classes(grouping, array.trees);
+    let mut totals = all_totals(aggregates, &found, &lists)?.into_iter();
     let mut build = Build::new();
     for (_, number) in found {
         build.start(&VOID);
         for pair in aggregates {
+            if pair.total {
+                let sum = totals.next().flatten();
+                build.add(|out| place(pair.target, out, |out| write_total(sum, out)))?;
+                continue;
+            }
             let write = |out: &mut Vec<u8>| {
                 lists.list(number).fold(false, |any, t| append(pair.source, t, out) | any)
             };

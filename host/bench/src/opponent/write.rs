@@ -143,6 +143,14 @@ fn write_list(mut members: &[Node], tree: &[u8], out: &mut Vec<u8>) -> bool {
     any
 }
 
+/// Writes a total as a bare tree: whether there is one.
+pub fn write_total(sum: Option<i64>, out: &mut Vec<u8>) -> bool {
+    let Some(sum) = sum else { return false };
+    out.extend_from_slice(&[2, 0, 11, 5, 0, 8]);
+    out.extend_from_slice(&sum.to_be_bytes());
+    true
+}
+
 pub fn write_item(nodes: &[Node], item: &Item, tree: &[u8], out: &mut Vec<u8>) {
     match item {
         Item::Keep(p) => keep(p, tree, out),

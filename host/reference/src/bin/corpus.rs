@@ -1,5 +1,6 @@
-//! `corpus RUNS SEED [REGROUPS] > FILE`: so many cases of runs, and behind
-//! them so many of regroupings (none if left out), with their expected
+//! `corpus RUNS SEED [REGROUPS [TOTALS]] > FILE`: so many cases of runs, behind
+//! them so many of regroupings, and behind those so many of groups with totals,
+//! of which every tenth is a regrouping (none if left out), with their expected
 //! outcome, as bytes.
 //!
 //! For test programs that have no reference of their own. A record, all
@@ -24,7 +25,9 @@
 //! Before a case the work area is filled with 170, the result area with 187
 //! and the position area with 43,690. The first records of each call are the
 //! same for every seed: one for each number, and for each array that can give
-//! it.
+//! it. So are the first ones with totals: 12 in its place among the tests, and
+//! sums at the limits. The runs and the regroupings before them have no totals,
+//! so that a seed gives the records that it gave before there were totals.
 
 use reference::bytes::{encode_array, encode_query};
 use reference::generate::{Case, Cases, RegroupCase, RegroupCases};
@@ -57,17 +60,24 @@ const LARGE_RUNS: Large = Large { every: 80, numbers: &[Some(2), None, Some(4), 
 const LARGE_REGROUPS: Large =
     Large { every: 25, numbers: &[Some(8), None, Some(2), Some(8), Some(9), Some(0), Some(4)] };
 
+const LARGE_TOTALS: Large =
+    Large { every: 25, numbers: &[Some(12), Some(8), Some(9), Some(0), Some(12), None] };
+
+/// Of the cases with totals one of so many is a regrouping.
+const TOTALS_REGROUP: usize = 10;
+
 fn main() -> ExitCode {
     let arguments: Option<Vec<u64>> = std::env::args().skip(1).map(|word| word.parse().ok()).collect();
-    let (runs, seed, regroups) = match arguments.as_deref() {
-        Some([runs, seed]) => (*runs, *seed, 0),
-        Some([runs, seed, regroups]) => (*runs, *seed, *regroups),
+    let (runs, seed, regroups, totals) = match arguments.as_deref() {
+        Some([runs, seed]) => (*runs, *seed, 0, 0),
+        Some([runs, seed, regroups]) => (*runs, *seed, *regroups, 0),
+        Some([runs, seed, regroups, totals]) => (*runs, *seed, *regroups, *totals),
         _ => {
-            eprintln!("usage: corpus RUNS SEED [REGROUPS] > FILE");
+            eprintln!("usage: corpus RUNS SEED [REGROUPS [TOTALS]] > FILE");
             return ExitCode::from(2);
         }
     };
-    match write_corpus(runs as usize, regroups as usize, seed) {
+    match write_corpus([runs, regroups, totals].map(|number| number as usize), seed) {
         Ok(()) => ExitCode::SUCCESS,
         Err(error) => {
             eprintln!("corpus: {error}");
@@ -76,22 +86,33 @@ fn main() -> ExitCode {
     }
 }
 
-fn write_corpus(runs: usize, regroups: usize, seed: u64) -> io::Result<()> {
-    let of_runs = few_large(Cases::new(seed).map(Record::from), LARGE_RUNS);
-    let of_regroups = few_large(RegroupCases::new(seed).map(Record::from), LARGE_REGROUPS);
+fn write_corpus([runs, regroups, totals]: [usize; 3], seed: u64) -> io::Result<()> {
+    let of_runs = few_large(Cases::without_totals(seed).map(Record::from), LARGE_RUNS);
+    let of_regroups = few_large(RegroupCases::without_totals(seed).map(Record::from), LARGE_REGROUPS);
+    let of_totals = few_large(with_totals(seed), LARGE_TOTALS);
     let mut out = BufWriter::new(io::stdout().lock());
     write_records(&mut out, first_runs().into_iter().chain(of_runs).take(runs))?;
     write_records(&mut out, first_regroups().into_iter().chain(of_regroups).take(regroups))?;
+    write_records(&mut out, first_totals().into_iter().chain(of_totals).take(totals))?;
     out.flush()
 }
 
+/// Records of groups with totals: runs, and among them regroupings.
+fn with_totals(seed: u64) -> impl Iterator<Item = Record> {
+    let (mut runs, mut regroups) = (Cases::with_totals(seed), RegroupCases::with_totals(seed));
+    (1_usize..).map_while(move |number| match number % TOTALS_REGROUP {
+        0 => regroups.next().map(Record::from),
+        _ => runs.next().map(Record::from),
+    })
+}
+
 fn write_records(out: &mut impl Write, records: impl Iterator<Item = Record>) -> io::Result<()> {
-    let mut numbers = [0; 12];
+    let mut numbers = [0; 13];
     for record in records {
         numbers[usize::from(record.number)] += 1;
         out.write_all(&record.bytes)?;
     }
-    eprintln!("numbers 0 to 11: {numbers:?}");
+    eprintln!("numbers 0 to 12: {numbers:?}");
     Ok(())
 }
 
@@ -217,7 +238,7 @@ fn run(number: u8, read: [&[u8]; 3], lengths: Lengths) -> Record {
 /// One regrouping for each number, in the order of the tests; each has the
 /// faults of the later ones too, as far as they can stand together.
 fn first_regroups() -> Vec<Record> {
-    let pair = |to: &[u8]| Pair { source: vec![3], destination: to.to_vec() };
+    let pair = |to: &[u8]| Pair::new(&[3], to);
     let such = query(&[group(&[pair(&[1])], &[pair(&[2])])]);
     let [two_labels, equal] = [&[1, 4][..], &[2]].map(|to| query(&[group(&[pair(to)], &[pair(&[2])])]));
     let halves = vec![Tree::void().with(1, vec![Tree::void(); 200]); 7];
@@ -247,6 +268,42 @@ fn regroup(number: u8, read: [&[u8]; 3], work_length: usize, result_length: usiz
     Record::from((RegroupCase { query, first, second, work_length, result_length }, verdict))
 }
 
+/// 12 in its place among the tests, each with the faults that are tested later
+/// too, as far as they can stand together; totals where they may not stand; and
+/// sums at the limits.
+fn first_totals() -> Vec<Record> {
+    let total = Pair::total(&[2], &[2]);
+    let totals = group(std::slice::from_ref(&total), &[]);
+    let unwind = Stage::Unwind(vec![1]);
+    let large = Stage::Project(vec![Item::Place(Data::Literal(vec![Tree::void(); 400]), vec![1])]);
+    let past = added(&[i64::MAX, 1]);
+    let of = |number: u8, values: &[i64]| {
+        let lengths = Lengths { result: ARRAY_LIMIT, ..LEAST };
+        run(number, [&query(std::slice::from_ref(&totals)), &added(values), &EMPTY], lengths)
+    };
+    vec![
+        run(9, [&query(&[unwind, totals.clone(), large.clone()]), &past, &EMPTY], LEAST),
+        run(8, [&query(&[large.clone(), totals.clone()]), &past, &EMPTY], LEAST),
+        run(12, [&query(&[totals.clone(), large]), &past, &EMPTY], LEAST),
+        run(3, [&query(&[group(&[], std::slice::from_ref(&total))]), &BAD, &BAD], LEAST),
+        run(3, [&query(&[group(&vec![total; 9], &[])]), &BAD, &BAD], LEAST),
+        of(0, &[i64::MAX, 1, -1]),
+        of(12, &[i64::MAX, 1]),
+        of(0, &[i64::MIN]),
+        of(12, &[i64::MIN, -1]),
+        of(0, &[5, -5]),
+        of(0, &[]),
+        regroup(3, [&query(std::slice::from_ref(&totals)), &BAD, &LONG], WORK_LEAST, 5),
+    ]
+}
+
+/// One tree with integers under label 2, of which an unwind by label 1 makes
+/// more than may enter a group.
+fn added(values: &[i64]) -> Vec<u8> {
+    let integers = values.iter().map(|value| Tree::integer(*value)).collect();
+    array(&[Tree::void().with(1, vec![Tree::void(); 304]).with(2, integers)])
+}
+
 fn group(aggregates: &[Pair], grouping: &[Pair]) -> Stage {
     Stage::Group { aggregates: aggregates.to_vec(), grouping: grouping.to_vec() }
 }
@@ -273,6 +330,18 @@ mod tests {
     fn the_first_cases_have_their_numbers() {
         assert_eq!(first_runs().len(), 12);
         assert_eq!(first_regroups().len(), 13);
+        assert_eq!(first_totals().len(), 12);
+    }
+
+    #[test]
+    fn the_stored_records_without_totals_are_made_again_by_their_seed() {
+        let stored = include_bytes!("../../../../crates/corpus/stdin");
+        let of_runs = few_large(Cases::without_totals(3).map(Record::from), LARGE_RUNS);
+        let of_regroups = few_large(RegroupCases::without_totals(3).map(Record::from), LARGE_REGROUPS);
+        let runs = first_runs().into_iter().chain(of_runs).take(6_000);
+        let regroups = first_regroups().into_iter().chain(of_regroups).take(2_000);
+        let made: Vec<u8> = runs.chain(regroups).flat_map(|record| record.bytes).collect();
+        assert!(stored.starts_with(&made));
     }
 
     #[test]

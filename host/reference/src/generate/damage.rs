@@ -103,8 +103,7 @@ impl Node {
 /// right. Bytes that are no field, and outcomes without a byte form, are
 /// damaged blindly.
 pub fn fielded(random: &mut Random, bytes: &[u8]) -> Vec<u8> {
-    let whole = fields(bytes).and_then(|all| all.first().map(|(tag, content)| Node::read(*tag, content)));
-    let Some(mut node) = whole else {
+    let Some(mut node) = first_field(bytes) else {
         return blind(random, bytes);
     };
     for _ in 0..random.pick(&[1, 1, 2]) {
@@ -112,6 +111,20 @@ pub fn fielded(random: &mut Random, bytes: &[u8]) -> Vec<u8> {
         change_node(random, node.nth(index));
     }
     node.write().unwrap_or_else(|| blind(random, bytes))
+}
+
+/// A field in which one of the fields, itself among them, has another tag.
+pub fn tagged(random: &mut Random, bytes: &[u8], tag: u8) -> Vec<u8> {
+    let Some(mut node) = first_field(bytes) else {
+        return blind(random, bytes);
+    };
+    let index = random.below(node.count());
+    node.nth(index).tag = tag;
+    node.write().unwrap_or_else(|| blind(random, bytes))
+}
+
+fn first_field(bytes: &[u8]) -> Option<Node> {
+    fields(bytes)?.first().map(|(tag, content)| Node::read(*tag, content))
 }
 
 fn change_node(random: &mut Random, node: &mut Node) {
@@ -129,6 +142,8 @@ fn change_node(random: &mut Random, node: &mut Node) {
     }
 }
 
+/// Document 01's tags, and 0. That of a total is not among them: the cases
+/// that were drawn before there were totals stay as they were.
 const ALL_TAGS: [u8; 34] = [
     0, 1, 2, 3, 4, 5, 6, 7, 16, 17, 18, 19, 20, 21, 32, 33, 34, 35, 36, 37, 38, 39, 40, 41, 42, 43, 44, 45,
     46, 47, 48, 49, 50, 51,

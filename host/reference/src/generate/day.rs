@@ -54,5 +54,5 @@ fn pair(random: &mut Random, free: &mut Vec<u8>) -> Pair {
     let destination = vec![free.remove(random.below(most))];
     let label = random.between(1, 5) as u8;
     let from = source(random, label);
-    Pair { source: random.pick(&[destination.clone(), from.clone(), from, vec![]]), destination }
+    Pair::new(&random.pick(&[destination.clone(), from.clone(), from, vec![]]), &destination)
 }

@@ -296,7 +296,8 @@ pub fn item(random: &mut Random, trees: &[Tree]) -> Item {
 }
 
 pub fn pair(random: &mut Random, trees: &[Tree]) -> Pair {
-    Pair { source: path(random, trees), destination: destination(random, trees) }
+    let source = path(random, trees);
+    Pair::new(&source, &destination(random, trees))
 }
 
 pub fn pairs(random: &mut Random, trees: &[Tree], number: usize) -> Vec<Pair> {

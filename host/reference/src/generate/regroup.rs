@@ -60,11 +60,24 @@ impl Draft {
 /// Cases without end, with what the reference answers to them.
 pub struct RegroupCases {
     random: Random,
+    kinds: Vec<(usize, Kind<RegroupCase>)>,
 }
 
 impl RegroupCases {
+    /// Cases of all kinds.
     pub fn new(seed: u64) -> RegroupCases {
-        RegroupCases { random: Random::new(seed) }
+        RegroupCases { random: Random::new(seed), kinds: [&KINDS[..], &TOTALS].concat() }
+    }
+
+    /// Cases without totals. A seed gives those that it gave before there were
+    /// totals, so that the stored ones can be made again.
+    pub fn without_totals(seed: u64) -> RegroupCases {
+        RegroupCases { kinds: KINDS.to_vec(), ..RegroupCases::new(seed) }
+    }
+
+    /// Cases of groups with totals, which the call refuses.
+    pub fn with_totals(seed: u64) -> RegroupCases {
+        RegroupCases { kinds: TOTALS.to_vec(), ..RegroupCases::new(seed) }
     }
 }
 
@@ -73,14 +86,14 @@ impl Iterator for RegroupCases {
 
     fn next(&mut self) -> Option<(RegroupCase, Verdict)> {
         loop {
-            if let Some(case) = of_kinds(&mut self.random, &KINDS) {
+            if let Some(case) = of_kinds(&mut self.random, &self.kinds) {
                 return Some(in_areas(&mut self.random, case));
             }
         }
     }
 }
 
-/// The kinds of cases, and how often each is drawn, in thousand.
+/// The kinds of cases without totals, and how often each is drawn, in thousand.
 const KINDS: [(usize, Kind<RegroupCase>); 14] = [
     (300, |random| results(random)?.case()),
     (150, |random| any_arrays(random).case()),
@@ -96,6 +109,13 @@ const KINDS: [(usize, Kind<RegroupCase>); 14] = [
     (15, |random| random_bytes(random)),
     (40, |random| several_faults(random)),
     (15, |random| short_work(random)),
+];
+
+/// Those of groups with totals, the others having a thousand together.
+const TOTALS: [(usize, Kind<RegroupCase>); 3] = [
+    (40, |random| totals(random).case()),
+    (10, |random| totals_and_faults(random)),
+    (5, |random| totals_in_short_work(random)),
 ];
 
 /// Gives a case its areas. Some result areas are measured by the result: just
@@ -175,6 +195,20 @@ fn with_other_destination(random: &mut Random, mut group: Stage) -> Stage {
     group
 }
 
+/// A group that would be such a one without its totals, over any arrays; seldom
+/// the totals stand among the grouping pairs.
+fn totals(random: &mut Random) -> Draft {
+    let (aggregates, grouping) = (random.pick(&[1, 1, 2, 3, AGGREGATES_LIMIT]), random.between(1, 2));
+    let mut group = group_of(random, aggregates, grouping);
+    if let Stage::Group { aggregates, grouping } = &mut group {
+        let pairs = if random.chance(10) { grouping } else { aggregates };
+        let at = random.below(pairs.len());
+        pairs[at].total = true;
+        pairs.iter_mut().for_each(|pair| pair.total |= random.chance(40));
+    }
+    Draft { stages: vec![group], ..any_arrays(random) }
+}
+
 /// A query at its limit, which no such group reaches, or past it.
 fn long_query(random: &mut Random) -> Option<RegroupCase> {
     let mut case = any_arrays(random).case()?;
@@ -190,7 +224,7 @@ fn join_limits(random: &mut Random) -> Draft {
         |random: &mut Random, size| if size == HEAD { vec![] } else { draw::filled(random, vec![], size) };
     let (first, second) = (some(random, part), some(random, size + HEAD - part));
     // label 9 is absent; label 1 makes a tree too large, or classes
-    let pair = |label: u8| vec![Pair { source: vec![3], destination: vec![label] }];
+    let pair = |label: u8| vec![Pair::new(&[3], &[label])];
     let (aggregates, grouping) =
         random.pick(&[(vec![], vec![]), (pair(9), vec![]), (pair(1), pair(9)), (vec![], pair(1))]);
     Draft { stages: vec![Stage::Group { aggregates, grouping }], first, second }
@@ -209,7 +243,7 @@ fn tree_growth(random: &mut Random) -> Draft {
         trees
     };
     let (first, second) = (half(random, part), half(random, content - part));
-    let pair = |label: u8| Pair { source: vec![], destination: vec![label] };
+    let pair = |label: u8| Pair::new(&[], &[label]);
     let stages = vec![Stage::Group { aggregates: vec![pair(1)], grouping: vec![pair(2)] }];
     Draft { stages, first, second }
 }
@@ -278,6 +312,20 @@ fn several_faults(random: &mut Random) -> Option<RegroupCase> {
     Some(case)
 }
 
+/// Totals, and faults that are tested before them or behind.
+fn totals_and_faults(random: &mut Random) -> Option<RegroupCase> {
+    let mut case = totals(random).case()?;
+    case.query = with_fault(random, case.query, QUERY_LIMIT);
+    case.first = with_fault(random, case.first, ARRAY_LIMIT);
+    case.second = with_fault(random, case.second, ARRAY_LIMIT);
+    Some(case)
+}
+
+fn totals_in_short_work(random: &mut Random) -> Option<RegroupCase> {
+    let case = totals(random).case()?;
+    Some(RegroupCase { work_length: short_length(random), ..case })
+}
+
 /// A work area that is too short.
 fn short_work(random: &mut Random) -> Option<RegroupCase> {
     let mut case = if random.chance(50) { sound(random)? } else { field_damage(random)? };
@@ -294,6 +342,16 @@ mod tests {
         let cases = |seed| RegroupCases::new(seed).take(50).collect::<Vec<_>>();
         assert_eq!(cases(7), cases(7));
         assert_ne!(cases(7), cases(8));
+    }
+
+    #[test]
+    fn totals_are_never_accepted() {
+        let mut numbers = [0; 13];
+        let cases = RegroupCases::with_totals(1).take(1_000);
+        cases.for_each(|(_, verdict)| numbers[usize::from(verdict.number())] += 1);
+        assert!(numbers[3] > 700 && numbers[1] > 20 && numbers[2] > 10, "{numbers:?}");
+        // a damaged query may have lost its totals
+        assert!(numbers[0] < 10 && numbers[12] == 0, "{numbers:?}");
     }
 
     #[test]

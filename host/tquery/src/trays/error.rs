@@ -16,6 +16,8 @@ pub enum Unfit {
     Refused(Refusal),
     /// This stage, counted from 1, is a group, and others follow it.
     GroupInside(usize),
+    /// This aggregate of the last group, counted from 1, is a total.
+    Total(usize),
     /// A destination of the last group has this many labels.
     DestinationLong(usize),
     /// Two destinations of the last group are this label.
@@ -32,6 +34,9 @@ impl fmt::Display for Unfit {
                     out,
                     "stage {stage} is a group and not the last stage; for trays only the last may be one"
                 )
+            }
+            Unfit::Total(aggregate) => {
+                write!(out, "aggregate {aggregate} of the last group is a total; for trays none may be one")
             }
             Unfit::DestinationLong(labels) => {
                 write!(out, "a destination of the last group has {labels} labels; for trays each has one")

@@ -18,15 +18,22 @@ pub fn last_group(query: &[u8]) -> Result<Option<Vec<u8>>, Unfit> {
         return Err(Unfit::GroupInside(at + 1));
     }
     let (_, lists) = stages[at];
+    if let Some(at) = pairs(lists).position(|(tag, _)| tag == tags::TOTAL) {
+        return Err(Unfit::Total(at + 1));
+    }
     distinct(lists)?;
     Ok(Some(alone(lists)))
+}
+
+/// The pairs of a group's two lists, the aggregates first.
+fn pairs(lists: &[u8]) -> impl Iterator<Item = (u8, &[u8])> {
+    fields(lists).flat_map(|(_, pairs)| fields(pairs))
 }
 
 /// Whether the destinations in a group's two lists of pairs are single labels,
 /// no two equal.
 fn distinct(lists: &[u8]) -> Result<(), Unfit> {
-    let pairs = fields(lists).flat_map(|(_, pairs)| fields(pairs));
-    let destinations = pairs.filter_map(|(_, paths)| fields(paths).nth(1));
+    let destinations = pairs(lists).filter_map(|(_, paths)| fields(paths).nth(1));
     let mut labels = Vec::new();
     for (_, path) in destinations {
         match path {

@@ -4,9 +4,11 @@ use Rattle.finish.specs.FinishLaws.{
   held-accept,
   held-finish,
   failed-large,
-  failed-long,
+  failed-halted,
   failed-full,
 }
+use Rattle.spec_stages.specs.Stages.{tooLong, overflow}
+use Rattle.spec_run.specs.Run.{refusalAt}
 use borrow.Author.Needs.{needs}
 use Rattle.finish.proofs.finish.finish.Statement.{statement}
 use Rattle.finish.proofs.finish.finish.Tie as tie
@@ -41,6 +43,12 @@ enum-told-3 c = search needs
 fail-requires-3 : tie.Need-fail-requires-3
 fail-requires-3 c κs = search needs
 
+enum-told-4 : tie.Need-enum-told-4
+enum-told-4 c = search needs
+
+fail-requires-4 : tie.Need-fail-requires-4
+fail-requires-4 c κs = search needs
+
 same-length : tie.Need-same-length
 same-length c = search needs
 
@@ -64,21 +72,33 @@ same-length-3 : tie.Need-same-length-3
 same-length-3 c = search needs
 
 returns-3 : tie.Need-returns-3
+unfolding refusalAt
 returns-3 c =
-    λ st bs h ps. failed-long
+    λ st bs h ps. failed-halted
     (c .before .before .before .before .before .before .before .before .args .result .now)
-    (c .before .before .fail2 .ensures) ps refl
+    (c .before .before .fail2 .ensures) ps tooLong refl
     (h .long-is (c .before .before .before .before .enum-told2 .given .1))
 
 same-length-4 : tie.Need-same-length-4
 same-length-4 c = search needs
 
 returns-4 : tie.Need-returns-4
+unfolding refusalAt
 returns-4 c =
+    λ st bs h ps. failed-halted
+    (c .before .before .before .before .before .before .before .before .args .result .now)
+    (c .before .before .fail3 .ensures) ps overflow refl
+    (h .overflow-is (c .before .before .before .before .enum-told3 .given .1))
+
+same-length-5 : tie.Need-same-length-5
+same-length-5 c = search needs
+
+returns-5 : tie.Need-returns-5
+returns-5 c =
     λ st bs h ps. failed-full
     (c .before .before .before .before .before .before .before .before .args .result .now)
-    (c .before .before .fail3 .ensures) ps refl
-    (h .full (c .before .before .before .before .enum-told3 .given .1))
+    (c .before .before .fail4 .ensures) ps refl
+    (h .full (c .before .before .before .before .enum-told4 .given .1))
 
 pub finish-spec : {M : Type 1} → statement M
 finish-spec =
@@ -92,6 +112,8 @@ finish-spec =
     fail-requires-2
     enum-told-3
     fail-requires-3
+    enum-told-4
+    fail-requires-4
     same-length
     returns
     same-length-2
@@ -99,4 +121,6 @@ finish-spec =
     same-length-3
     returns-3
     same-length-4
-    returns-4)
+    returns-4
+    same-length-5
+    returns-5)

@@ -39,6 +39,9 @@ enum-told-10 c = search needs
 enum-told-11 : tie.Need-enum-told-11
 enum-told-11 c = search needs
 
+enum-told-12 : tie.Need-enum-told-12
+enum-told-12 c = search needs
+
 returns : tie.Need-returns
 unfolding keepsWork
 returns c = search needs
@@ -83,6 +86,10 @@ returns-11 : tie.Need-returns-11
 unfolding keepsWork
 returns-11 c = search needs
 
+returns-12 : tie.Need-returns-12
+unfolding keepsWork
+returns-12 c = search needs
+
 pub keeps-work-spec : {M : Type 1} → statement M
 keeps-work-spec =
     tie.close
@@ -98,6 +105,7 @@ keeps-work-spec =
     enum-told-9
     enum-told-10
     enum-told-11
+    enum-told-12
     returns
     returns-2
     returns-3
@@ -108,4 +116,5 @@ keeps-work-spec =
     returns-8
     returns-9
     returns-10
-    returns-11)
+    returns-11
+    returns-12)

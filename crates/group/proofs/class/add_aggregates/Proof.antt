@@ -9,7 +9,7 @@ use Rattle.areas.specs.declared.area.Out.{Out}
 use Rattle.spec_queries.specs.Bytes.{pairF}
 use Rattle.queries.specs.PartLaws.{holds-of, list-places}
 use Rattle.areas.specs.Area.{span}
-use Rattle.group.specs.Grow.{onePart, aggregateValue, ClassAt, PairsReady, PairsGrow}
+use Rattle.group.specs.Grow.{onePart, aggregateValue, Fits, ClassAt, PairsReady, PairsGrow}
 use Rattle.group.specs.GrowLaws.{pairs-done, pairs-first, pairs-stop, pairs-rest, pairs-next}
 use Rattle.group.specs.PairLaws.{class-keep}
 use Rattle.group.proofs.class.add_aggregates.Statement.{statement}
@@ -21,10 +21,10 @@ use Rattle.group.proofs.class.add_aggregate.Reads as add-aggregate-read
 
 abbrev Inv-loop : tie.InvT-loop
 Inv-loop work₀ query members last base at₀ to₀ work at to =
-    PairsReady (ClassAt members base) work query (span at last) (span base to) ×
+    PairsReady (ClassAt members base) Fits work query (span at last) (span base to) ×
     (length work ≡ length work₀)
-    × ((u : List ℕ) (r : Out) → PairsGrow (ClassAt members base) (onePart aggregateValue) work u
-    query (span at last) (span base to) r → PairsGrow (ClassAt members base)
+    × ((u : List ℕ) (r : Out) → PairsGrow (ClassAt members base) Fits (onePart aggregateValue) work
+    u query (span at last) (span base to) r → PairsGrow (ClassAt members base) Fits
     (onePart aggregateValue) work₀ u query (span at₀ last) (span base to₀) r)
 
 abbrev μ-loop : tie.MeasureT-loop
@@ -44,7 +44,7 @@ field-end-requires c κs =
 add-aggregate-requires : tie.Need-add-aggregate-requires Inv-loop μ-loop
 add-aggregate-requires c κs =
     pairs-first (ClassAt (c .before .before .before .before .before .before .args .members)
-    (c .before .before .before .before .before .before .args .built .from))
+    (c .before .before .before .before .before .before .args .built .from)) Fits
     (onePart aggregateValue) (c .before .before .before .before .before .before .args .query .now)
     (c .before .before .before .loop .at)
     (c .before .before .before .before .before .before .args .aggregates .to)
@@ -68,7 +68,7 @@ returns c =
     (c .before .before .before .before .add-aggregate .last .0) Out.TooLarge
     (pairs-stop (ClassAt (c .before .before .before .before .before .before .before .before .before .before .before .args .members)
     (c .before .before .before .before .before .before .before .before .before .before .before .args .built .from))
-    (onePart aggregateValue)
+    Fits (onePart aggregateValue)
     (c .before .before .before .before .before .before .before .before .before .before .before .args .query .now)
     (c .before .before .before .before .before .before .before .before .loop .at)
     (c .before .before .before .before .before .before .before .before .before .before .before .args .aggregates .to)
@@ -93,7 +93,7 @@ loop-again : tie.Need-loop-again Inv-loop μ-loop
 loop-again c = (
   pairs-rest (ClassAt (c .before .before .before .before .before .before .before .before .before .before .before .before .args .members)
       (c .before .before .before .before .before .before .before .before .before .before .before .before .args .built .from))
-      (onePart aggregateValue)
+      Fits (onePart aggregateValue)
       (c .before .before .before .before .before .before .before .before .before .before .before .before .args .query .now)
       (c .before .before .before .before .before .before .before .before .before .loop .at)
       (c .before .before .before .before .before .before .before .before .before .before .before .before .args .aggregates .to)
@@ -112,7 +112,7 @@ loop-again c = (
       u r (pairs-next (ClassAt
       (c .before .before .before .before .before .before .before .before .before .before .before .before .args .members)
       (c .before .before .before .before .before .before .before .before .before .before .before .before .args .built .from))
-      (onePart aggregateValue)
+      Fits (onePart aggregateValue)
       (c .before .before .before .before .before .before .before .before .before .before .before .before .args .query .now)
       (c .before .before .before .before .before .before .before .before .before .loop .at)
       (c .before .before .before .before .before .before .before .before .before .before .before .before .args .aggregates .to)
@@ -132,7 +132,7 @@ returns-2 : tie.Need-returns-2 Inv-loop μ-loop
 returns-2 c =
     c .before .loop .inv .2 (c .before .loop .work) (Out.At (c .before .loop .to))
     (pairs-done (ClassAt (c .before .before .before .before .args .members)
-    (c .before .before .before .before .args .built .from)) (onePart aggregateValue)
+    (c .before .before .before .before .args .built .from)) Fits (onePart aggregateValue)
     (c .before .before .before .before .args .query .now) (c .before .loop .at)
     (c .before .before .before .before .args .aggregates .to) (c .before .loop .work)
     (c .before .before .before .before .args .built .from) (c .before .loop .to)

@@ -9,7 +9,7 @@ use Rattle.areas.specs.declared.area.Out.{Out}
 use Rattle.spec_queries.specs.Bytes.{pairF}
 use Rattle.queries.specs.PartLaws.{holds-of, list-places}
 use Rattle.areas.specs.Area.{span}
-use Rattle.group.specs.Grow.{sourcedPart, FirstAt, PairsReady, PairsGrow}
+use Rattle.group.specs.Grow.{sourcedPart, Always, FirstAt, PairsReady, PairsGrow}
 use Rattle.group.specs.GrowLaws.{pairs-done, pairs-first, pairs-stop, pairs-rest, pairs-next}
 use Rattle.group.specs.PairLaws.{first-keep}
 use Rattle.group.proofs.class.add_identities.Statement.{statement}
@@ -21,11 +21,11 @@ use Rattle.group.proofs.class.add_sourced.Reads as add-sourced-reads
 
 abbrev Inv-loop : tie.InvT-loop
 Inv-loop work₀ query first last base at₀ to₀ work at to =
-    PairsReady (FirstAt first base) work query (span at last) (span base to) ×
+    PairsReady (FirstAt first base) Always work query (span at last) (span base to) ×
     (length work ≡ length work₀)
-    × ((u : List ℕ) (r : Out) → PairsGrow (FirstAt first base) sourcedPart work u query
-    (span at last) (span base to) r → PairsGrow (FirstAt first base) sourcedPart work₀ u query
-    (span at₀ last) (span base to₀) r)
+    × ((u : List ℕ) (r : Out) → PairsGrow (FirstAt first base) Always sourcedPart work u query
+    (span at last) (span base to) r → PairsGrow (FirstAt first base) Always sourcedPart work₀ u
+    query (span at₀ last) (span base to₀) r)
 
 abbrev μ-loop : tie.MeasureT-loop
 μ-loop work₀ query first last base at₀ to₀ work at to = last - at
@@ -44,7 +44,7 @@ field-end-requires c κs =
 add-sourced-requires : tie.Need-add-sourced-requires Inv-loop μ-loop
 add-sourced-requires c κs =
     pairs-first (FirstAt (c .before .before .before .before .before .before .args .first)
-    (c .before .before .before .before .before .before .args .built .from)) sourcedPart
+    (c .before .before .before .before .before .before .args .built .from)) Always sourcedPart
     (c .before .before .before .before .before .before .args .query .now)
     (c .before .before .before .loop .at)
     (c .before .before .before .before .before .before .args .keys .to)
@@ -68,7 +68,7 @@ returns c =
     (c .before .before .before .before .add-sourced .last .0) Out.TooLarge
     (pairs-stop (FirstAt (c .before .before .before .before .before .before .before .before .before .before .before .args .first)
     (c .before .before .before .before .before .before .before .before .before .before .before .args .built .from))
-    sourcedPart (c .before .before .before .before .before .before .before .before .before .before .before .args .query .now)
+    Always sourcedPart (c .before .before .before .before .before .before .before .before .before .before .before .args .query .now)
     (c .before .before .before .before .before .before .before .before .loop .at)
     (c .before .before .before .before .before .before .before .before .before .before .before .args .keys .to)
     (c .before .before .before .before .before .before .before .before .loop .work)
@@ -92,7 +92,7 @@ loop-again : tie.Need-loop-again Inv-loop μ-loop
 loop-again c = (
   pairs-rest (FirstAt (c .before .before .before .before .before .before .before .before .before .before .before .before .args .first)
       (c .before .before .before .before .before .before .before .before .before .before .before .before .args .built .from))
-      sourcedPart (c .before .before .before .before .before .before .before .before .before .before .before .before .args .query .now)
+      Always sourcedPart (c .before .before .before .before .before .before .before .before .before .before .before .before .args .query .now)
       (c .before .before .before .before .before .before .before .before .before .loop .at)
       (c .before .before .before .before .before .before .before .before .before .before .before .before .args .keys .to)
       (c .before .before .before .before .before .before .before .before .before .loop .work)
@@ -110,7 +110,7 @@ loop-again c = (
       u r (pairs-next (FirstAt
       (c .before .before .before .before .before .before .before .before .before .before .before .before .args .first)
       (c .before .before .before .before .before .before .before .before .before .before .before .before .args .built .from))
-      sourcedPart (c .before .before .before .before .before .before .before .before .before .before .before .before .args .query .now)
+      Always sourcedPart (c .before .before .before .before .before .before .before .before .before .before .before .before .args .query .now)
       (c .before .before .before .before .before .before .before .before .before .loop .at)
       (c .before .before .before .before .before .before .before .before .before .before .before .before .args .keys .to)
       (c .before .before .before .before .before .before .before .before .before .loop .work)
@@ -129,7 +129,7 @@ returns-2 : tie.Need-returns-2 Inv-loop μ-loop
 returns-2 c =
     c .before .loop .inv .2 (c .before .loop .work) (Out.At (c .before .loop .to))
     (pairs-done (FirstAt (c .before .before .before .before .args .first)
-    (c .before .before .before .before .args .built .from)) sourcedPart
+    (c .before .before .before .before .args .built .from)) Always sourcedPart
     (c .before .before .before .before .args .query .now) (c .before .loop .at)
     (c .before .before .before .before .args .keys .to) (c .before .loop .work)
     (c .before .before .before .before .args .built .from) (c .before .loop .to)

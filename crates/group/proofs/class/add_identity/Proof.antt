@@ -2,7 +2,7 @@
 use native.Mathlib.Omega.{arith}
 use mathlib.Core.Path.{_∙_}
 use Rattle.queries.specs.PartLaws.{holds-of}
-use Rattle.group.specs.Grow.{identityValue, FirstAt}
+use Rattle.group.specs.Grow.{identityValue, Always, FirstAt}
 use Rattle.group.specs.PairLaws.{
   first-sound,
   target-along,
@@ -30,7 +30,7 @@ pair-at-requires c κs = holds-of (c .before .before .pre .asked)
 heads-room-requires : tie.Need-heads-room-requires
 heads-room-requires c κs =
     target-along (FirstAt (c .before .before .before .args .first)
-    (c .before .before .before .args .built .from)) (c .before .before .before .pre)
+    (c .before .before .before .args .built .from)) Always (c .before .before .before .pre)
     (c .pair-at .ensures)
 
 add-from : tie.Need-add-from
@@ -45,7 +45,7 @@ add-t13 c =
       arith,
       (target-places
           (FirstAt (c .before .before .before .before .before .args .first)
-          (c .before .before .before .before .before .args .built .from))
+          (c .before .before .before .before .before .args .built .from)) Always
           (c .before .before .before .before .before .pre) (c .before .before .pair-at .ensures)),
       c .before .heads-room .ensures,
     )
@@ -59,7 +59,7 @@ write-path-requires c κs =
       arith,
       c .before .before .heads-room .ensures,
       (target-places (FirstAt (c .before .before .before .before .before .before .args .first)
-          (c .before .before .before .before .before .before .args .built .from))
+          (c .before .before .before .before .before .before .args .built .from)) Always
           (c .before .before .before .before .before .before .pre)
           (c .before .before .before .pair-at .ensures)) .0,
     ))
@@ -68,7 +68,7 @@ place-value-requires : tie.Need-place-value-requires
 place-value-requires c κs =
     value-ready (FirstAt (c .before .before .before .before .before .before .before .before .before .before .args .first)
     (c .before .before .before .before .before .before .before .before .before .before .args .built .from))
-    (c .before .before .before .before .before .before .before .before .before .before .pre)
+    Always (c .before .before .before .before .before .before .before .before .before .before .pre)
     (c .before .before .before .before .before .before .before .pair-at .ensures) identityValue
     first-sound (c .before .before .before .before .before .before .heads-room .ensures)
     (c .before .before .before .write-path .kept .0)
@@ -79,7 +79,7 @@ add-written-requires : tie.Need-add-written-requires
 add-written-requires c κs =
     part-adding (FirstAt (c .before .before .before .before .before .before .before .before .before .before .before .before .before .before .args .first)
     (c .before .before .before .before .before .before .before .before .before .before .before .before .before .before .args .built .from))
-    (c .before .before .before .before .before .before .before .before .before .before .before .before .before .before .pre)
+    Always (c .before .before .before .before .before .before .before .before .before .before .before .before .before .before .pre)
     (c .before .before .before .before .before .before .before .before .before .before .before .pair-at .ensures)
     identityValue first-sound
     (c .before .before .before .before .before .before .before .before .before .before .heads-room .ensures)
@@ -97,7 +97,7 @@ returns : tie.Need-returns
 returns c =
     part-grows (FirstAt (c .before .before .before .before .before .before .before .before .before .before .before .before .before .before .before .before .before .args .first)
     (c .before .before .before .before .before .before .before .before .before .before .before .before .before .before .before .before .before .args .built .from))
-    (c .before .before .before .before .before .before .before .before .before .before .before .before .before .before .before .before .before .pre)
+    Always (c .before .before .before .before .before .before .before .before .before .before .before .before .before .before .before .before .before .pre)
     (c .before .before .before .before .before .before .before .before .before .before .before .before .before .before .pair-at .ensures)
     identityValue first-sound
     (c .before .before .before .before .before .before .before .before .before .before .before .before .before .heads-room .ensures)

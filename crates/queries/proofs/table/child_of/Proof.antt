@@ -57,7 +57,11 @@ returns-12 c = sym (ap kindAt (c .match .keys12))
 
 returns-13 : tie.Need-returns-13
 unfolding kindAt
-returns-13 c = sym (kind-else (c .before .args .kind) (c .match .rest))
+returns-13 c = sym (ap kindAt (c .match .keys13))
+
+returns-14 : tie.Need-returns-14
+unfolding kindAt
+returns-14 c = sym (kind-else (c .before .args .kind) (c .match .rest))
 
 pub child-of-spec : {M : Type 1} → statement M
 child-of-spec =
@@ -75,4 +79,5 @@ child-of-spec =
     returns-10
     returns-11
     returns-12
-    returns-13)
+    returns-13
+    returns-14)

@@ -7,6 +7,7 @@ use Rattle.regrouping.specs.JoinedGroupLaws.{
   joined-above,
   joined-standing,
   again-ready,
+  again-overflow,
   again-ended,
   pairs-fit,
 }
@@ -86,22 +87,43 @@ next-stretch-requires c κs =
     (c .before .before .before .before .before .before .before .before .number .ensures)
     (c .before .before .before .before .write-again .ensures) _ refl
 
-last-requires : tie.Need-last-requires
-last-requires c κs = search needs
+enum-known-grouped : tie.Need-enum-known-grouped
+enum-known-grouped c = search needs
+
+enum-told-2 : tie.Need-enum-told-2
+enum-told-2 c = search needs
 
 same-length-2 : tie.Need-same-length-2
 same-length-2 c = search needs
 
 returns-2 : tie.Need-returns-2
 returns-2 c =
-    again-ended (c .before .before .before .before .before .before .before .before .before .before .before .before .before .before .before .before .before .before .before .join .ensures)
-    (c .before .before .before .before .before .before .before .before .before .before .before .before .before .before .before .joined .given .1)
-    (c .before .before .before .before .before .before .before .before .before .before .before .before .before .before .before .before .before .before .before .before .before .before .before .before .before .pre)
-    refl (c .before .before .before .before .before .before .before .before .before .before .before .before .before .before .before .before .before .before .before .join .kept .0)
-    (c .before .before .before .before .before .before .before .before .before .before .before .before .number .kept .0)
-    (c .before .before .before .before .before .before .before .before .before .before .before .before .number .ensures)
-    (c .before .before .before .before .before .before .before .before .write-again .ensures) _
-    refl (c .before .before .before .next-stretch .ensures) (c .last .ensures)
+    again-overflow (c .before .before .before .before .before .before .before .before .before .before .before .before .before .before .before .before .before .before .before .before .join .ensures)
+    (c .before .before .before .before .before .before .before .before .before .before .before .before .before .before .before .before .joined .given .1)
+    (c .before .before .before .before .before .before .before .before .before .before .before .before .before .before .before .before .before .before .before .before .before .before .before .before .before .before .pre)
+    refl (c .before .before .before .before .before .before .before .before .before .before .before .before .before .before .before .before .before .before .before .before .join .kept .0)
+    (c .before .before .before .before .before .before .before .before .before .before .before .before .before .number .kept .0)
+    (c .before .before .before .before .before .before .before .before .before .before .before .before .before .number .ensures)
+    (c .before .before .before .before .before .before .before .before .before .write-again .ensures)
+    _ refl (c .before .before .before .before .next-stretch .ensures) (c .enum-told2 .given .1)
+
+last-requires : tie.Need-last-requires
+last-requires c κs = search needs
+
+same-length-3 : tie.Need-same-length-3
+same-length-3 c = search needs
+
+returns-3 : tie.Need-returns-3
+returns-3 c =
+    again-ended (c .before .before .before .before .before .before .before .before .before .before .before .before .before .before .before .before .before .before .before .before .before .before .join .ensures)
+    (c .before .before .before .before .before .before .before .before .before .before .before .before .before .before .before .before .before .before .joined .given .1)
+    (c .before .before .before .before .before .before .before .before .before .before .before .before .before .before .before .before .before .before .before .before .before .before .before .before .before .before .before .before .pre)
+    refl (c .before .before .before .before .before .before .before .before .before .before .before .before .before .before .before .before .before .before .before .before .before .before .join .kept .0)
+    (c .before .before .before .before .before .before .before .before .before .before .before .before .before .before .before .number .kept .0)
+    (c .before .before .before .before .before .before .before .before .before .before .before .before .before .before .before .number .ensures)
+    (c .before .before .before .before .before .before .before .before .before .before .before .write-again .ensures)
+    _ refl (c .before .before .before .before .before .before .next-stretch .ensures)
+    (c .before .before .grouped .given .1) (c .last .ensures)
 
 pub joined-group-spec : {M : Type 1} → statement M
 joined-group-spec =
@@ -119,6 +141,10 @@ joined-group-spec =
     slice-aggregate-next-stretch
     slice-aggregate-next-stretch-2
     next-stretch-requires
-    last-requires
+    enum-known-grouped
+    enum-told-2
     same-length-2
-    returns-2)
+    returns-2
+    last-requires
+    same-length-3
+    returns-3)

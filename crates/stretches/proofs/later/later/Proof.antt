@@ -10,6 +10,7 @@ use Rattle.stretches.specs.LaterLaws.{
   later-places,
   later-long,
   later-held,
+  later-overflow,
   later-ready,
   later-next,
 }
@@ -70,51 +71,61 @@ next-stretch-requires c κs =
     (c .before .before .before .before .before .next .given .1) (c .before .before .held .given .1)
     (c .before .before .before .before .before .before .before .before .loop .inv .ready)
 
-loop-less : tie.Need-loop-less Inv-loop μ-loop
-loop-less c =
-    omega (
-      arith,
-      later-places
-          (c .before .before .before .before .before .before .before .before .before .before .before .next-group .ensures)
-          (c .before .before .before .before .before .before .before .before .before .next .given .1)
-          ((c .before .before .before .before .before .before .before .before .before .before .before .before .loop .inv .ready) .list)
-          ((c .before .before .before .before .before .before .before .before .before .before .before .before .loop .inv .ready) .joined)
-          ((c .before .before .before .before .before .before .before .before .before .before .before .before .loop .inv .ready) .planned),
-    )
-
-loop-again : tie.Need-loop-again Inv-loop μ-loop
-loop-again c =
-    record {
-      same = c .before .before .before .next-stretch .kept .0 ∙
-          c .before .before .before .before .before .before .before .before .before .before .before .before .loop .inv .same;
-      ready = later-ready (c .before .before .before .before .before .before .before .before .before .before .before .next-group .ensures)
-          (c .before .before .before .before .before .before .before .before .before .next .given .1)
-          (c .before .before .before .before .before .before .held .given .1)
-          (c .before .before .before .before .before .before .before .before .before .before .before .before .loop .inv .ready)
-          (c .before .before .before .next-stretch .kept .0)
-          (c .before .before .before .next-stretch .ensures);
-      whole = λ h.
-          c .before .before .before .before .before .before .before .before .before .before .before .before .loop .inv .whole
-          (later-next (c .before .before .before .before .before .before .before .before .before .before .before .next-group .ensures)
-          (c .before .before .before .before .before .before .before .before .before .next .given .1)
-          (c .before .before .before .before .before .before .held .given .1)
-          (c .before .before .before .before .before .before .before .before .before .before .before .before .loop .inv .ready)
-          (c .before .before .before .next-stretch .kept .0)
-          (c .before .before .before .next-stretch .ensures) h);
-    }
+enum-known-grouped : tie.Need-enum-known-grouped Inv-loop μ-loop
+enum-known-grouped c = search needs
 
 enum-told-2 : tie.Need-enum-told-2 Inv-loop μ-loop
 enum-told-2 c = search needs
 
 same-length-2 : tie.Need-same-length-2 Inv-loop μ-loop
-same-length-2 c = c .before .before .before .before .before .before .loop .inv .same
+same-length-2 c =
+    c .before .before .before .before .next-stretch .kept .0 ∙
+    c .before .before .before .before .before .before .before .before .before .before .before .before .before .loop .inv .same
 
 returns-2 : tie.Need-returns-2 Inv-loop μ-loop
 returns-2 c =
-    c .before .before .before .before .before .before .loop .inv .whole
-    (later-long (c .before .before .before .before .before .next-group .ensures)
-    (c .before .before .before .next .given .1)
-    (c .before .before .before .before .before .before .loop .work) (c .enum-told2 .given .1))
+    c .before .before .before .before .before .before .before .before .before .before .before .before .before .loop .inv .whole
+    (later-overflow (c .before .before .before .before .before .before .before .before .before .before .before .before .next-group .ensures)
+    (c .before .before .before .before .before .before .before .before .before .before .next .given .1)
+    (c .before .before .before .before .before .before .before .held .given .1)
+    (c .before .before .before .before .before .before .before .before .before .before .before .before .before .loop .inv .ready)
+    (c .before .before .before .before .next-stretch .kept .0)
+    (c .before .before .before .before .next-stretch .ensures) (c .enum-told2 .given .1))
+
+loop-less : tie.Need-loop-less Inv-loop μ-loop
+loop-less c =
+    omega (
+      arith,
+      later-places
+          (c .before .before .before .before .before .before .before .before .before .before .before .before .before .before .next-group .ensures)
+          (c .before .before .before .before .before .before .before .before .before .before .before .before .next .given .1)
+          ((c .before .before .before .before .before .before .before .before .before .before .before .before .before .before .before .loop .inv .ready) .list)
+          ((c .before .before .before .before .before .before .before .before .before .before .before .before .before .before .before .loop .inv .ready) .joined)
+          ((c .before .before .before .before .before .before .before .before .before .before .before .before .before .before .before .loop .inv .ready) .planned),
+    )
+
+loop-again : tie.Need-loop-again Inv-loop μ-loop
+loop-again c =
+    record {
+      same = c .before .before .before .before .before .before .next-stretch .kept .0 ∙
+          c .before .before .before .before .before .before .before .before .before .before .before .before .before .before .before .loop .inv .same;
+      ready = later-ready (c .before .before .before .before .before .before .before .before .before .before .before .before .before .before .next-group .ensures)
+          (c .before .before .before .before .before .before .before .before .before .before .before .before .next .given .1)
+          (c .before .before .before .before .before .before .before .before .before .held .given .1)
+          (c .before .before .before .before .before .before .before .before .before .before .before .before .before .before .before .loop .inv .ready)
+          (c .before .before .before .before .before .before .next-stretch .kept .0)
+          (c .before .before .before .before .before .before .next-stretch .ensures)
+          (c .before .before .grouped .given .1);
+      whole = λ h.
+          c .before .before .before .before .before .before .before .before .before .before .before .before .before .before .before .loop .inv .whole
+          (later-next (c .before .before .before .before .before .before .before .before .before .before .before .before .before .before .next-group .ensures)
+          (c .before .before .before .before .before .before .before .before .before .before .before .before .next .given .1)
+          (c .before .before .before .before .before .before .before .before .before .held .given .1)
+          (c .before .before .before .before .before .before .before .before .before .before .before .before .before .before .before .loop .inv .ready)
+          (c .before .before .before .before .before .before .next-stretch .kept .0)
+          (c .before .before .before .before .before .before .next-stretch .ensures)
+          (c .before .before .grouped .given .1) h);
+    }
 
 enum-told-3 : tie.Need-enum-told-3 Inv-loop μ-loop
 enum-told-3 c = search needs
@@ -125,8 +136,21 @@ same-length-3 c = c .before .before .before .before .before .before .loop .inv .
 returns-3 : tie.Need-returns-3 Inv-loop μ-loop
 returns-3 c =
     c .before .before .before .before .before .before .loop .inv .whole
-    (later-large (c .before .before .before .before .before .next-group .ensures)
+    (later-long (c .before .before .before .before .before .next-group .ensures)
+    (c .before .before .before .next .given .1)
     (c .before .before .before .before .before .before .loop .work) (c .enum-told3 .given .1))
+
+enum-told-4 : tie.Need-enum-told-4 Inv-loop μ-loop
+enum-told-4 c = search needs
+
+same-length-4 : tie.Need-same-length-4 Inv-loop μ-loop
+same-length-4 c = c .before .before .before .before .before .before .loop .inv .same
+
+returns-4 : tie.Need-returns-4 Inv-loop μ-loop
+returns-4 c =
+    c .before .before .before .before .before .before .loop .inv .whole
+    (later-large (c .before .before .before .before .before .next-group .ensures)
+    (c .before .before .before .before .before .before .loop .work) (c .enum-told4 .given .1))
 
 pub later-spec : {M : Type 1} → statement M
 later-spec =
@@ -144,11 +168,15 @@ later-spec =
     enum-known-held
     cast-next-stretch
     next-stretch-requires
-    loop-less
-    loop-again
+    enum-known-grouped
     enum-told-2
     same-length-2
     returns-2
+    loop-less
+    loop-again
     enum-told-3
     same-length-3
-    returns-3)
+    returns-3
+    enum-told-4
+    same-length-4
+    returns-4)

@@ -18,8 +18,8 @@ use Rattle.trays.proofs.tray_group.tray_group.Lts as lts
 use Rattle.areas.proofs.area.field_end.Reads as field-end-reads
 use Rattle.queries.proofs.stage.stage_at.Reads as stage-at-reads
 use Rattle.queries.proofs.stage.stages_of.Reads as stages-of-reads
-use Rattle.trays.proofs.tray_group.distinct.Reads as distinct-reads
 use Rattle.trays.proofs.tray_group.group_of.Reads as group-of-reads
+use Rattle.trays.proofs.tray_group.regroups.Reads as regroups-reads
 
 stages-of-requires : tie.Need-stages-of-requires
 stages-of-requires c κs = search needs
@@ -60,8 +60,8 @@ returns-3 c =
     (c .before .before .before .before .if2 .left) (c .before .before .before .stage-at .ensures)
     (c .before .before .group-of .ensures) (c .enum-told .given .1)
 
-distinct-requires : tie.Need-distinct-requires
-distinct-requires c κs =
+regroups-requires : tie.Need-regroups-requires
+regroups-requires c κs =
     query-group (c .before .before .before .before .before .before .before .before .before .stages-of .ensures)
     (c .before .before .before .before .before .before .before .if1 .left)
     (c .before .before .before .before .before .before .field-end .ensures)
@@ -78,7 +78,7 @@ returns-4 c =
     (c .before .before .before .before .before .before .before .if2 .left)
     (c .before .before .before .before .before .before .stage-at .ensures)
     (c .before .before .before .before .before .group-of .ensures)
-    (c .before .before .before .found .given .1) (c .before .distinct .ensures) (c .if3 .taken)
+    (c .before .before .before .found .given .1) (c .before .regroups .ensures) (c .if3 .taken)
 
 returns-5 : tie.Need-returns-5
 returns-5 c =
@@ -88,7 +88,7 @@ returns-5 c =
     (c .before .before .before .before .before .before .before .if2 .left)
     (c .before .before .before .before .before .before .stage-at .ensures)
     (c .before .before .before .before .before .group-of .ensures)
-    (c .before .before .before .found .given .1) (c .before .distinct .ensures) (c .if3 .left)
+    (c .before .before .before .found .given .1) (c .before .regroups .ensures) (c .if3 .left)
 
 pub tray-group-spec : {M : Type 1} → statement M
 tray-group-spec =
@@ -103,6 +103,6 @@ tray-group-spec =
     enum-known-found
     enum-told
     returns-3
-    distinct-requires
+    regroups-requires
     returns-4
     returns-5)
