@@ -164,14 +164,15 @@
  * of tquery_run and four of tquery_regroup:
  *
  *     tquery_run          8,720 bytes
- *     tquery_regroup      2,816 bytes
- *     tquery_check_query  2,384 bytes
+ *     tquery_regroup      2,800 bytes
+ *     tquery_check_query  2,400 bytes
  *     tquery_check_array  1,368 bytes
  *
  * The library's tests fail if a call uses more than TQUERY_STACK_MAX bytes.
  * The library does not clear its stack, and single bytes of records were seen
  * to stay there; of a group also places that depend on numbers made of the
- * keys. A maker who must leave nothing of the records on the stack clears
+ * keys, and of a group with totals whole integers of records and their sums.
+ * A maker who must leave nothing of the records on the stack clears
  * TQUERY_STACK_MAX bytes below the stack pointer after a call.
  */
 

@@ -17,7 +17,7 @@ use Rattle.spec_trees.specs.Within.{Allowed, AllowedA}
 use Rattle.areas.specs.Area.{Is, Wrote, IsAt, span}
 use Rattle.spec_queries.specs.Query.{Pair}
 use Rattle.spec_queries.specs.Rules.{OkPair, OkPairs}
-use Rattle.queries.specs.Places.{pairsBytes, arrayTrees, HoldsOk}
+use Rattle.queries.specs.Places.{pairsBytes, arrayTrees}
 use Rattle.queries.specs.TreesLaws.{array-before}
 use Rattle.spec_stages.specs.Merge.{build}
 use Rattle.queries.specs.declared.stage.GroupAt.{GroupAt}

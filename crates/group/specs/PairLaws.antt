@@ -21,7 +21,7 @@ use Rattle.queries.specs.declared.item.PairAt.{PairAt}
 use Rattle.queries.specs.Steps.{stepCount}
 use Rattle.spec_stages.specs.Paths.{Given, over, apply}
 use Rattle.spec_stages.specs.Project.{placed}
-use Rattle.spec_stages.specs.Totals.{total, fitsSigned, totalGiven}
+use Rattle.spec_stages.specs.Totals.{total, fitsSigned}
 use Rattle.spec_stages.specs.Group.{aggregate, totalFits, sourced, Class}
 use Rattle.spec_stages.specs.KeepLaws.{OkF, labelled, placed-ok, apply-ok, over-ok, total-ok, allowed-ok}
 use Rattle.paths.specs.Walk.{Walk, Tells, TellsOver}

@@ -18,7 +18,7 @@ use Rattle.spec_trees.specs.Within.{AllBytes}
 use Rattle.spec_trees.specs.OptionLaws.{leb-yes, eqb-same, only-some}
 use Rattle.spec_trees.specs.FieldLaws.{bytes-one}
 use Rattle.spec_trees.specs.ReaderLaws.{Law, field-eq, OneOf, among-some, tagged-some, one-back, one-form, two-back, two-form, three-back, three-form, many-back, many-form, tested-only, tested-overlong, malformed-form}
-use Rattle.spec_queries.specs.Query.{Path, Route, Item, keep, place, Pair, pairWith, pairOf, totalPair, Stage, match, unwind, project, group, lookup}
+use Rattle.spec_queries.specs.Query.{Path, Route, Item, keep, place, Pair, pairWith, pairOf, Stage, match, unwind, project, group, lookup}
 use Rattle.spec_queries.specs.Bytes.{pathF, routeF, itemF, pairTag, pairF, pairsF, stageF, queryF, queryBytes}
 use Rattle.spec_queries.specs.Decode.{pathR⁺, routeR, itemTable, itemR, pairR, aggregateTable, aggregateR, pairsR, stageTable, stageR, queryR, decodeQuery, readQuery}
 use Rattle.spec_queries.specs.Rules.{OkRoute, OkP⁺, OkI, OkPair, OkPairs, Plain, OkS, OkQ}

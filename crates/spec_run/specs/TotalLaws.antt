@@ -23,7 +23,7 @@ use Rattle.spec_queries.specs.AgainLaws.{regrouping-group, regrouping-alone}
 use Rattle.spec_queries.specs.RegroupingLaws.{plain-again}
 use Rattle.spec_stages.specs.Totals.{total}
 use Rattle.spec_stages.specs.Group.{grouped}
-use Rattle.spec_stages.specs.Stages.{Halt, tooLong, overflow, State, going, large, halted, entering, performed, leaving, after, step, stages}
+use Rattle.spec_stages.specs.Stages.{tooLong, overflow, State, going, halted, entering, performed, leaving, after, step, stages}
 use Rattle.spec_stages.specs.Trays.{Tray}
 use Rattle.spec_stages.specs.TrayLaws.{run-grouped}
 use Rattle.spec_stages.specs.FitLaws.{plain-fits}

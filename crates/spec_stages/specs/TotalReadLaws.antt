@@ -1,10 +1,10 @@
 -- A total read off the trees of a group, whose destinations are single labels, no two equal: under its destination the
 -- trees have the total that the array that entered has under its source.
-use mathlib.Core.Path.{_≡_, refl, sym, ap, ap₂, _∙_}
+use mathlib.Core.Path.{_≡_, sym, ap, ap₂, _∙_}
 use mathlib.Core.List.{List, [], _∷_}
 use mathlib.Core.Bool.{true}
 use mathlib.Core.Option.{some}
-use lib.ListN.{length, length-map}
+use lib.ListN.{length-map}
 use Rattle.spec_trees.specs.Lists.{All, each}
 use Rattle.spec_trees.specs.OptionLaws.{some-equal}
 use Rattle.spec_trees.specs.FilterLaws.{each-parts}

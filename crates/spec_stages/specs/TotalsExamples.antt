@@ -11,7 +11,7 @@ use Rattle.spec_trees.specs.Tree.{Tree, node, boolean, text, bare, bareVoid}
 use Rattle.spec_trees.specs.Examples.{int, #, ⟨_⟩, _⇒_⨾_}
 use Rattle.spec_queries.specs.Query.{Route, Pair, pairOf, totalPair, Stage, unwind, group, lookup}
 use Rattle.spec_stages.specs.Totals.{total, fitsSigned}
-use Rattle.spec_stages.specs.Stages.{tooLong, overflow, State, going, large, halted}
+use Rattle.spec_stages.specs.Stages.{tooLong, overflow, going, large, halted}
 use Rattle.spec_stages.specs.Examples.{ran}
 
 abbrev greatest : ℤ

@@ -1,5 +1,5 @@
 -- Totals: those of all classes add to that of the array that entered, and the order of the members has no part.
-use mathlib.Core.Path.{_≡_, refl, sym, ap, ap₂, _∙_}
+use mathlib.Core.Path.{_≡_, refl, sym, ap, _∙_}
 use mathlib.Core.List.{List, [], _∷_, _++_, map, append-nil}
 use mathlib.Core.Bool.{true}
 use mathlib.Core.Option.{Option, none, some}
@@ -12,7 +12,7 @@ use Rattle.spec_queries.specs.Query.{Route, Pair}
 use Rattle.spec_stages.specs.Paths.{Given, join, joins, over, apply}
 use Rattle.spec_stages.specs.Sums.{integers, added}
 use Rattle.spec_stages.specs.Totals.{rootIntegers, treeIntegers, givenIntegers, sumOf, total, totalGiven, totals, counted}
-use Rattle.spec_stages.specs.Group.{Class, grouped, aggregate}
+use Rattle.spec_stages.specs.Group.{grouped, aggregate}
 use Rattle.spec_stages.specs.Permutes.{Permutes}
 use Rattle.spec_stages.specs.Flat.{members, flat}
 use Rattle.spec_stages.specs.SumsLaws.{added-append, added-permutes, added-gather, added-same}
