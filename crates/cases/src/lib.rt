@@ -1,4 +1,7 @@
 //! What the test programs share: a case, its call of the engine, and whether all that is seen of it is as expected.
+
+#![tactic(auto)]
+
 pub mod comparing;
 pub mod positions;
 pub mod report;

@@ -1,3 +1,6 @@
 //! Bytes compared, eight a step.
+
+#![tactic(auto)]
+
 pub mod compare;
 mod words;

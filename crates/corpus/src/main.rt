@@ -8,6 +8,9 @@
 //! stated the second. Without it there is no count and there are no positions, and the area has as many entries as a run
 //! needs. A tracer's message has both bits, and but for them the length is 0: it stands in the query's place, the two
 //! arrays are empty, and there is no count and there are no positions.
+
+#![tactic(auto)]
+
 mod count;
 mod record;
 mod turn;

@@ -10,7 +10,7 @@ use paths::path::present;
 use queries::criterion::{CriterionAt, criterion_at};
 
 /// Whether the tree meets the criterion.
-#[cycle(holds_holds_both_holds_either)]
+#[cycle(judging)]
 pub fn holds<'a>(query: &'a [u8], criterion: Span, area: &'a [u8], tree: Span, left: usize) -> bool
     requires { Evaluable query.now criterion area.now tree left }
     ensures { Meets query.now criterion area.now tree left result }
@@ -51,7 +51,7 @@ pub fn holds<'a>(query: &'a [u8], criterion: Span, area: &'a [u8], tree: Span, l
 }
 
 /// Whether the tree meets both criteria. The second is looked at only if the first is met.
-#[cycle(holds_holds_both_holds_either)]
+#[cycle(judging)]
 fn holds_both<'a>(
     query: &'a [u8],
     one: Span,
@@ -67,7 +67,7 @@ fn holds_both<'a>(
 }
 
 /// Whether the tree meets one of the two. The second is looked at only if the first is not met.
-#[cycle(holds_holds_both_holds_either)]
+#[cycle(judging)]
 fn holds_either<'a>(
     query: &'a [u8],
     one: Span,

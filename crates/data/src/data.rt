@@ -62,7 +62,7 @@ fn in_piece(divisor: usize, i: usize, steps: usize) -> bool
 }
 
 /// What the path, from step i on, gives of the tree, with each root divided unless the divisor is 0.
-#[cycle(write_over_write_walk)]
+#[cycle(walking)]
 fn write_walk(
     work: &mut [u8],
     query: &[u8],
@@ -86,7 +86,7 @@ fn write_walk(
 }
 
 /// The same over an array, by its trees.
-#[cycle(write_over_write_walk)]
+#[cycle(walking)]
 fn write_over(
     work: &mut [u8],
     query: &[u8],
@@ -243,7 +243,7 @@ fn write_test(
 }
 
 /// What the data, nested no deeper than `left`, give of the tree.
-#[cycle(write_data_write_list)]
+#[cycle(writing)]
 pub fn write_data(
     work: &mut [u8],
     query: &[u8],
@@ -285,7 +285,7 @@ pub fn write_data(
 }
 
 /// The members of a list, one behind another.
-#[cycle(write_data_write_list)]
+#[cycle(writing)]
 fn write_list(
     work: &mut [u8],
     query: &[u8],

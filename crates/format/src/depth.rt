@@ -26,7 +26,7 @@ pub fn within_depth(area: &[u8], trees: Span, left: usize) -> bool
 }
 
 /// The same by a walk, where they have bytes enough for more.
-#[cycle(labels_within_trees_within)]
+#[cycle(nesting)]
 fn trees_within(area: &[u8], trees: Span, left: usize) -> bool
     requires { Holds trees_bytes area.now trees.from trees.to }
     ensures { Says trees_bytes (λ ts. leb (depth_a ts) left) area.now trees.from trees.to result }
@@ -51,7 +51,7 @@ fn trees_within(area: &[u8], trees: Span, left: usize) -> bool
 }
 
 /// Whether the trees under the labels that stand at a place take at most `left` levels.
-#[cycle(labels_within_trees_within)]
+#[cycle(nesting)]
 fn labels_within(area: &[u8], labels: Span, left: usize) -> bool
     requires { Holds labels_bytes area.now labels.from labels.to }
     ensures { Says labels_bytes (λ ls. leb (depth_l ls) left) area.now labels.from labels.to result }

@@ -1,4 +1,7 @@
 //! The field-format crate: fields, trees and arrays as bytes. One idea in each file.
+
+#![tactic(auto)]
+
 pub mod check;
 pub mod depth;
 pub mod head;

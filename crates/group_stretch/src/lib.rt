@@ -1,2 +1,5 @@
 //! A group and the stages behind it, over the classes of an array.
+
+#![tactic(auto)]
+
 pub mod regroup;

@@ -1,3 +1,6 @@
 //! What a lookup makes of a tree, built in a lent area.
+
+#![tactic(auto)]
+
 pub mod lookup;
 pub mod matching;

@@ -34,7 +34,7 @@ fn merge_root(work: &mut [u8], one: Span, other: Span, room: Span) -> Out
 }
 
 /// The merge of two trees: a root and labels.
-#[cycle(merge_entry_merge_first_merge_labels_merge_node_merge_trees)]
+#[cycle(merging)]
 fn merge_node(work: &mut [u8], one: Span, other: Span, room: Span) -> Out
     requires { MergeReady tree_bytes work.old one other room }
     ensures { Merged tree_bytes merge_two work.old work.new one other room result }
@@ -76,7 +76,7 @@ fn choose(label: u16, bound: u16, below: usize, otherwise: usize) -> usize
 }
 
 /// All labels of both. The place of the greater of two labels stays as it is.
-#[cycle(merge_entry_merge_first_merge_labels_merge_node_merge_trees)]
+#[cycle(merging)]
 fn merge_labels(work: &mut [u8], one: Span, other: Span, room: Span) -> Out
     requires { MergeReady labels_bytes work.old one other room }
     ensures { Merged labels_bytes merge_two_l work.old work.new one other room result }
@@ -109,7 +109,7 @@ fn merge_labels(work: &mut [u8], one: Span, other: Span, room: Span) -> Out
 }
 
 /// The first label of a merge, with its array: the lesser of two, or both merged.
-#[cycle(merge_entry_merge_first_merge_labels_merge_node_merge_trees)]
+#[cycle(merging)]
 fn merge_first(work: &mut [u8], one: Span, other: Span, room: Span) -> Out
     requires { MergeReady entry_of work.old one other room }
     ensures { Merged entry_of merge_first work.old work.new one other room result }
@@ -127,7 +127,7 @@ fn merge_first(work: &mut [u8], one: Span, other: Span, room: Span) -> Out
 
 /// A label that both have, with the two arrays merged. The label is copied as it stands, and n bytes go before the
 /// trees.
-#[cycle(merge_entry_merge_first_merge_labels_merge_node_merge_trees)]
+#[cycle(merging)]
 fn merge_entry(work: &mut [u8], one: Span, other: Span, room: Span) -> Out
     requires { MergeReady entry_of work.old one other room }
     ensures { Merged entry_of merge_entry work.old work.new one other room result }
@@ -165,7 +165,7 @@ fn merge_entry(work: &mut [u8], one: Span, other: Span, room: Span) -> Out
 }
 
 /// Two arrays position by position, and the surplus of the longer.
-#[cycle(merge_entry_merge_first_merge_labels_merge_node_merge_trees)]
+#[cycle(merging)]
 fn merge_trees(work: &mut [u8], one: Span, other: Span, room: Span) -> Out
     requires { MergeReady trees_bytes work.old one other room }
     ensures { Merged trees_bytes merge_two_a work.old work.new one other room result }

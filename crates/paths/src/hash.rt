@@ -80,7 +80,7 @@ fn hash_trees(area: &[u8], trees: Span, number: usize) -> usize
 }
 
 /// The number with the trees more that the path, from step i on, gives of the tree. Absent gives none.
-#[cycle(hash_over_hash_walk)]
+#[cycle(hashing)]
 fn hash_walk(query: &[u8], path: Span, i: usize, area: &[u8], tree: Span, number: usize) -> usize
     requires { Walk tree_bytes query.now path i area.now tree × (number < hash_limit) }
     ensures { (result < hash_limit) × Tells query.now path i area.now tree (λ x. result ≡ trees_hash number (given x)) }
@@ -96,7 +96,7 @@ fn hash_walk(query: &[u8], path: Span, i: usize, area: &[u8], tree: Span, number
 }
 
 /// The same over an array, by its trees: each goes on from the number so far.
-#[cycle(hash_over_hash_walk)]
+#[cycle(hashing)]
 fn hash_over(query: &[u8], path: Span, i: usize, area: &[u8], trees: Span, number: usize) -> usize
     requires { Walk trees_bytes query.now path i area.now trees × (number < hash_limit) }
     ensures { (result < hash_limit) × TellsOver query.now path i area.now trees (λ x. result ≡ trees_hash number (given x)) }

@@ -49,7 +49,7 @@ pub fn under(query: &[u8], path: Span, i: usize, area: &[u8], tree: Span) -> Fou
 }
 
 /// Whether the path, from step i on, gives an array of the tree: whether it is not absent.
-#[cycle(present_present_over)]
+#[cycle(presence)]
 pub fn present(query: &[u8], path: Span, i: usize, area: &[u8], tree: Span) -> bool
     requires { Walk tree_bytes query.now path i area.now tree }
     ensures { Tells query.now path i area.now tree (λ x. result ≡ paths.present x) }
@@ -65,7 +65,7 @@ pub fn present(query: &[u8], path: Span, i: usize, area: &[u8], tree: Span) -> b
 }
 
 /// The same over an array, by its trees. Over an empty array the path is present.
-#[cycle(present_present_over)]
+#[cycle(presence)]
 fn present_over(query: &[u8], path: Span, i: usize, area: &[u8], trees: Span) -> bool
     requires { Walk trees_bytes query.now path i area.now trees }
     ensures { TellsOver query.now path i area.now trees (λ x. result ≡ paths.present x) }
@@ -86,7 +86,7 @@ fn present_over(query: &[u8], path: Span, i: usize, area: &[u8], trees: Span) ->
 }
 
 /// How many trees the path, from step i on, gives of the tree. Absent gives none.
-#[cycle(count_count_over)]
+#[cycle(counting)]
 pub fn count(query: &[u8], path: Span, i: usize, area: &[u8], tree: Span) -> usize
     requires { Walk tree_bytes query.now path i area.now tree }
     ensures { (result ≤ tree.to - tree.from) × Tells query.now path i area.now tree (λ x. result ≡ length (given x)) }
@@ -102,7 +102,7 @@ pub fn count(query: &[u8], path: Span, i: usize, area: &[u8], tree: Span) -> usi
 }
 
 /// The same over an array, by its trees.
-#[cycle(count_count_over)]
+#[cycle(counting)]
 fn count_over(query: &[u8], path: Span, i: usize, area: &[u8], trees: Span) -> usize
     requires { Walk trees_bytes query.now path i area.now trees }
     ensures { (result ≤ trees.to - trees.from) × TellsOver query.now path i area.now trees (λ x. result ≡ length (given x)) }
@@ -119,7 +119,7 @@ fn count_over(query: &[u8], path: Span, i: usize, area: &[u8], trees: Span) -> u
 }
 
 /// Where tree j stands, counted from 0, of those that the path, from step i on, gives of the tree.
-#[cycle(nth_nth_over)]
+#[cycle(finding)]
 pub fn nth(query: &[u8], path: Span, i: usize, area: &[u8], tree: Span, j: usize) -> Element
     requires { Walk tree_bytes query.now path i area.now tree }
     ensures { Tells query.now path i area.now tree (λ x. ElementIs area.now tree j (given x) result) }
@@ -138,7 +138,7 @@ pub fn nth(query: &[u8], path: Span, i: usize, area: &[u8], tree: Span, j: usize
 }
 
 /// The same over an array, by its trees.
-#[cycle(nth_nth_over)]
+#[cycle(finding)]
 fn nth_over(query: &[u8], path: Span, i: usize, area: &[u8], trees: Span, j: usize) -> Element
     requires { Walk trees_bytes query.now path i area.now trees }
     ensures { TellsOver query.now path i area.now trees (λ x. ElementIs area.now trees j (given x) result) }
@@ -176,7 +176,7 @@ fn stands_at(area: &[u8], part: Span, other: &[u8], at: usize) -> Compared
 }
 
 /// Whether the bytes of the trees that the path, from step i on, gives of the tree stand in `other` from `at` on.
-#[cycle(matches_at_matches_over)]
+#[cycle(matching)]
 pub fn matches_at(
     query: &[u8],
     path: Span,
@@ -200,7 +200,7 @@ pub fn matches_at(
 }
 
 /// The same over an array, by its trees.
-#[cycle(matches_at_matches_over)]
+#[cycle(matching)]
 fn matches_over(
     query: &[u8],
     path: Span,

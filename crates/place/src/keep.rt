@@ -12,7 +12,7 @@ use format::labels::{Found, find, heads};
 use queries::path::{step_at, steps};
 
 /// Writes into the room the keep of the tree, by the path from step i on.
-#[cycle(keep_keep_each)]
+#[cycle(keeping)]
 pub fn keep(work: &mut [u8], query: &[u8], path: Span, i: usize, tree: Span, room: Span) -> Out
     requires { WriterReady tree_bytes work.old query.now path i tree room }
     ensures { Keeps work.old work.new query.now path i tree room result }
@@ -42,7 +42,7 @@ pub fn keep(work: &mut [u8], query: &[u8], path: Span, i: usize, tree: Span, roo
 }
 
 /// Writes into the room the keeps of the trees, by the path from step i on, one behind another.
-#[cycle(keep_keep_each)]
+#[cycle(keeping)]
 fn keep_each(work: &mut [u8], query: &[u8], path: Span, i: usize, trees: Span, room: Span) -> Out
     requires { WriterReady trees_bytes work.old query.now path i trees room }
     ensures { KeepsEach work.old work.new query.now path i trees room result }

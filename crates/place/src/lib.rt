@@ -1,3 +1,6 @@
 //! Place and keep, written into a lent area.
+
+#![tactic(auto)]
+
 pub mod keep;
 pub mod place;

@@ -1,3 +1,6 @@
 //! The positions that the collected trees bear.
+
+#![tactic(auto)]
+
 pub mod bear;
 pub mod entries;

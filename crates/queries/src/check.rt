@@ -129,7 +129,7 @@ fn next_child(area: &[u8], rule: Rule, count: usize, rest: Span) -> Next
 
 /// The fields inside a field, by its tag, as its rule says: each child in its place, not too many and not too few.
 /// Criteria and data among them may nest `left` deep.
-#[cycle(check_criterion_check_data_check_field_check_inside)]
+#[cycle(checking)]
 fn check_inside(area: &[u8], rules: &Table, field: u8, content: Span, left: usize) -> bool
     requires { (content.from ≤ content.to) × (content.to ≤ length area.now) × (rules.now ≡ rule_bytes) }
     ensures { result ≡ by_rule left field (slice content.from content.to area.now) }
@@ -166,7 +166,7 @@ fn check_inside(area: &[u8], rules: &Table, field: u8, content: Span, left: usiz
 
 /// A field that holds fields, by its tag and content, where criteria and data may nest `left` deep. Below a stage, an
 /// item or a pair, which are in no criterion and in no data, all levels are left.
-#[cycle(check_criterion_check_data_check_field_check_inside)]
+#[cycle(checking)]
 fn check_field(area: &[u8], rules: &Table, tag: u8, content: Span, left: usize) -> bool
     requires { (content.from ≤ content.to) × (content.to ≤ length area.now) × (rules.now ≡ rule_bytes) × (leaf tag ≡ false) }
     ensures { result ≡ field_ok left (tag, slice content.from content.to area.now) }
@@ -179,7 +179,7 @@ fn check_field(area: &[u8], rules: &Table, tag: u8, content: Span, left: usize) 
 }
 
 /// A criterion by its tag and content: it counts 1, and what it holds nests one level less deep.
-#[cycle(check_criterion_check_data_check_field_check_inside)]
+#[cycle(checking)]
 fn check_criterion(area: &[u8], rules: &Table, tag: u8, content: Span, left: usize) -> bool
     requires { (content.from ≤ content.to) × (content.to ≤ length area.now) × (rules.now ≡ rule_bytes) × (33 ≤ tag) × (tag ≤ 39) }
     ensures { result ≡ criterion_ok left (tag, slice content.from content.to area.now) }
@@ -192,7 +192,7 @@ fn check_criterion(area: &[u8], rules: &Table, tag: u8, content: Span, left: usi
 
 /// Data by their tag and content, lists and choices among them: they count 1, and what they hold nests one level less
 /// deep.
-#[cycle(check_criterion_check_data_check_field_check_inside)]
+#[cycle(checking)]
 fn check_data(area: &[u8], rules: &Table, tag: u8, content: Span, left: usize) -> bool
     requires { (content.from ≤ content.to) × (content.to ≤ length area.now) × (rules.now ≡ rule_bytes) × (40 ≤ tag) × (tag ≤ 45) }
     ensures { result ≡ data_ok left (tag, slice content.from content.to area.now) }

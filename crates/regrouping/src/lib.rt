@@ -1,3 +1,6 @@
 //! Two arrays joined and grouped again.
+
+#![tactic(auto)]
+
 pub mod join;
 pub mod joined_group;

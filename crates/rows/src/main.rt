@@ -1,5 +1,8 @@
 //! Runs the engine on each row of a text, which stands on standard input, and writes its name with the verdict, and
 //! at the end how many rows agree. The head of the text says how a row is written.
+
+#![tactic(auto)]
+
 mod count;
 mod row;
 

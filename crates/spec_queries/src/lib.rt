@@ -1,1 +1,3 @@
 //! Queries and their byte form: definitions and the theorems that follow from them alone.
+
+#![tactic(auto)]

@@ -1,1 +1,3 @@
 //! Trees, arrays and their byte form: definitions and the theorems that follow from them alone.
+
+#![tactic(auto)]

@@ -40,7 +40,7 @@ pub struct Entry {
 
 /// Feeds the tree at the front of the tail to the stages, up to the next group: what leaves the last of them is
 /// collected. The answer is what the collector holds then.
-#[cycle(feed_feed_each_feed_elements_feed_looked_feed_matched_feed_outcomes_feed_projected_feed_unwound)]
+#[cycle(feeding)]
 pub fn feed<'a>(
     tail: &mut [u8],
     end: usize,
@@ -80,7 +80,7 @@ pub fn feed<'a>(
 }
 
 /// Match: the tree goes on if it meets the criterion.
-#[cycle(feed_feed_each_feed_elements_feed_looked_feed_matched_feed_outcomes_feed_projected_feed_unwound)]
+#[cycle(feeding)]
 fn feed_matched<'a>(
     tail: &mut [u8],
     end: usize,
@@ -106,7 +106,7 @@ fn feed_matched<'a>(
 
 /// Unwind: each outcome goes on. For a path of one label the array under it is walked once; for a longer path each
 /// outcome is found from the tree's start.
-#[cycle(feed_feed_each_feed_elements_feed_looked_feed_matched_feed_outcomes_feed_projected_feed_unwound)]
+#[cycle(feeding)]
 fn feed_unwound<'a>(
     tail: &mut [u8],
     end: usize,
@@ -125,7 +125,7 @@ fn feed_unwound<'a>(
 }
 
 /// Each outcome in turn is written behind the front and goes on in the tail from there.
-#[cycle(feed_feed_each_feed_elements_feed_looked_feed_matched_feed_outcomes_feed_projected_feed_unwound)]
+#[cycle(feeding)]
 fn feed_outcomes<'a>(
     tail: &mut [u8],
     end: usize,
@@ -168,7 +168,7 @@ fn feed_outcomes<'a>(
 
 /// The same by a path of one label. An array of no tree under it gives no outcome. Where one tree alone stands there,
 /// the tree at the front is its own only outcome, and goes on as it lies.
-#[cycle(feed_feed_each_feed_elements_feed_looked_feed_matched_feed_outcomes_feed_projected_feed_unwound)]
+#[cycle(feeding)]
 fn feed_elements<'a>(
     tail: &mut [u8],
     end: usize,
@@ -200,7 +200,7 @@ fn feed_elements<'a>(
 
 /// The outcome for each tree of the array that stands under the path's label, as the array is walked. The path itself
 /// is not read again.
-#[cycle(feed_feed_each_feed_elements_feed_looked_feed_matched_feed_outcomes_feed_projected_feed_unwound)]
+#[cycle(feeding)]
 fn feed_each<'a>(
     tail: &mut [u8],
     end: usize,
@@ -246,7 +246,7 @@ fn feed_each<'a>(
 }
 
 /// Project: the tree that the items make stands behind the front, and goes on in the tail from there.
-#[cycle(feed_feed_each_feed_elements_feed_looked_feed_matched_feed_outcomes_feed_projected_feed_unwound)]
+#[cycle(feeding)]
 fn feed_projected<'a>(
     tail: &mut [u8],
     end: usize,
@@ -279,7 +279,7 @@ fn feed_projected<'a>(
 }
 
 /// Lookup: what it makes takes the tree's place, and goes on from there.
-#[cycle(feed_feed_each_feed_elements_feed_looked_feed_matched_feed_outcomes_feed_projected_feed_unwound)]
+#[cycle(feeding)]
 fn feed_looked<'a>(
     tail: &mut [u8],
     end: usize,

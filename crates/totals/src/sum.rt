@@ -44,7 +44,7 @@ pub fn sum_trees(area: &[u8], trees: Span, total: Total) -> Total
 }
 
 /// The total with the roots more of the trees that the path, from step i on, gives of the tree. Absent gives none.
-#[cycle(sum_over_sum_walk)]
+#[cycle(summing)]
 pub fn sum_walk(query: &[u8], path: Span, i: usize, area: &[u8], tree: Span, total: Total) -> Total
     requires { Walk tree_bytes query.now path i area.now tree × Ready total tree }
     ensures { Summed total result tree × Tells query.now path i area.now tree (λ x. AddsTrees total result (given x)) }
@@ -60,7 +60,7 @@ pub fn sum_walk(query: &[u8], path: Span, i: usize, area: &[u8], tree: Span, tot
 }
 
 /// The same over an array, by its trees: each goes on from the total so far.
-#[cycle(sum_over_sum_walk)]
+#[cycle(summing)]
 fn sum_over(query: &[u8], path: Span, i: usize, area: &[u8], trees: Span, total: Total) -> Total
     requires { Walk trees_bytes query.now path i area.now trees × Ready total trees }
     ensures { Summed total result trees × TellsOver query.now path i area.now trees (λ x. AddsTrees total result (given x)) }

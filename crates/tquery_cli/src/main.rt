@@ -1,5 +1,8 @@
 //! The program: it reads a query, an input and a joined array from standard input, runs the query, and writes the
 //! result in hexadecimal, or "refused " and the number of the refusal, to standard output.
+
+#![tactic(auto)]
+
 mod respond;
 mod split;
 mod text;

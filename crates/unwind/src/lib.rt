@@ -1,2 +1,5 @@
 //! The outcomes of an unwind, written into a lent area.
+
+#![tactic(auto)]
+
 pub mod unwind;

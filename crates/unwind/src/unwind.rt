@@ -23,7 +23,7 @@ pub enum Nth {
 }
 
 /// How many outcomes the tree has by the path from step i on.
-#[cycle(outcomes_outcomes_each)]
+#[cycle(unwinding)]
 pub fn outcomes(query: &[u8], path: Span, i: usize, area: &[u8], tree: Span) -> usize
     requires { Along query.now path × (i ≤ step_count query.now path) × HoldsAt tree_bytes area.now tree }
     ensures { Counts query.now path i area.now tree result }
@@ -43,7 +43,7 @@ pub fn outcomes(query: &[u8], path: Span, i: usize, area: &[u8], tree: Span) -> 
 }
 
 /// How many outcomes the trees have together by the path from step i on.
-#[cycle(outcomes_outcomes_each)]
+#[cycle(unwinding)]
 fn outcomes_each(query: &[u8], path: Span, i: usize, area: &[u8], trees: Span) -> usize
     requires { Along query.now path × (i ≤ step_count query.now path) × HoldsAt trees_bytes area.now trees }
     ensures { CountsEach query.now path i area.now trees result }
@@ -106,7 +106,7 @@ fn put_whole(work: &mut [u8], tree: Span, j: usize, room: Span) -> Nth
 
 /// Writes into the room the j-th outcome of the tree by the path from step i on, if there are so many. Only the trees
 /// that come before it are walked, each once; nothing is written before it is found.
-#[cycle(put_nth_put_nth_each)]
+#[cycle(putting)]
 pub fn put_nth(
     work: &mut [u8],
     query: &[u8],
@@ -145,7 +145,7 @@ pub fn put_nth(
 }
 
 /// The same of the outcomes of the trees, one behind another.
-#[cycle(put_nth_put_nth_each)]
+#[cycle(putting)]
 fn put_nth_each(
     work: &mut [u8],
     query: &[u8],
