@@ -10,7 +10,7 @@ use crate::number::{put_two, two_at};
 use crate::span::Span;
 
 /// Where the next byte goes, or that the bytes did not fit.
-#[derive(Drop)]
+#[derive(Clone, Copy)]
 pub enum Out {
     At(usize),
     TooLarge,

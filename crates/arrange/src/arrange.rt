@@ -17,7 +17,7 @@ use keys::key::subsets;
 use positions::bear::position_at;
 
 /// How far the front is filled: where the next tree goes, and how many stand there.
-#[derive(Drop)]
+#[derive(Clone, Copy)]
 pub struct Filled {
     pub to: usize,
     pub count: usize,

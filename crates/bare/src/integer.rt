@@ -9,7 +9,7 @@ use areas::number::put_word;
 use areas::span::Span;
 
 /// The tag of an integer root; where in a tree the root stands, where its bits, and where it ends.
-#[derive(Drop)]
+#[derive(Clone, Copy)]
 pub struct Integer;
 
 impl Integer {

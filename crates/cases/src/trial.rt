@@ -19,7 +19,7 @@ const ROOM: usize = 20480;
 const ENTRIES: usize = 20480;
 
 /// Whether a call is as expected, or the first thing that differs.
-#[derive(Drop)]
+#[derive(Clone, Copy)]
 pub enum Verdict {
     Agrees,
     /// Another number.
@@ -43,7 +43,7 @@ pub enum Verdict {
 }
 
 /// The calls that answer with a result.
-#[derive(Drop)]
+#[derive(Clone, Copy)]
 pub enum Call {
     Run,
     Regroup,
@@ -51,7 +51,7 @@ pub enum Call {
 
 /// A case of such a call. Its query, its two arrays (of a run the input and the joined array), the result that is
 /// expected, and its positions in two bytes each stand one behind another.
-#[derive(Drop)]
+#[derive(Clone, Copy)]
 pub struct Case {
     pub call: Call,
     /// Where each of the five ends.
@@ -73,7 +73,7 @@ pub struct Case {
 }
 
 /// The calls that only check.
-#[derive(Drop)]
+#[derive(Clone, Copy)]
 pub enum Check {
     Array,
     Query,

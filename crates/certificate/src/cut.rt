@@ -7,7 +7,7 @@ use format::limits::Limits;
 use spec_run::answer::Answer;
 
 /// The answers of three runs: of the two parts of a query, and of the uncut query.
-#[derive(Drop)]
+#[derive(Clone, Copy)]
 pub struct Runs {
     pub first: Answer,
     pub second: Answer,

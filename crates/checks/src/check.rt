@@ -12,7 +12,7 @@ use spec_run::answer::Refusal;
 use trays::tray_group::{TrayGroup, tray_group};
 
 /// The call passed the tests, or it is refused before a stage is performed.
-#[derive(Drop)]
+#[derive(Clone, Copy)]
 pub enum CallCheck {
     Passed,
     Refused(Refusal),
@@ -102,7 +102,7 @@ pub fn check_call(
 }
 
 /// The regrouping call passed the tests, and the pairs of its group stand there; or it is refused.
-#[derive(Drop)]
+#[derive(Clone, Copy)]
 pub enum RegroupCheck {
     Passed(GroupAt),
     Refused(Refusal),

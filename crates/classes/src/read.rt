@@ -7,7 +7,7 @@ use areas::number::two_at;
 use key_index::index::Index;
 
 /// How far the array is read: where the next tree stands, and how many stand before it.
-#[derive(Drop)]
+#[derive(Clone, Copy)]
 pub struct Reached {
     pub to: usize,
     pub count: usize,

@@ -8,7 +8,7 @@ ghost use Rattle.compare.specs.Compare.{IsComparison};
 use crate::words::compare_words;
 
 /// What comparing found, and in how many steps. A step compares a word with a word, or a single byte with one.
-#[derive(Drop)]
+#[derive(Clone, Copy)]
 pub struct Comparison {
     pub same: bool,
     pub steps: usize,

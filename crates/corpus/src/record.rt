@@ -4,7 +4,7 @@ ghost use Rattle.std.specs.Prelude.{◌≤◌};
 use areas::number::wide;
 
 /// What came: a number; nothing, as the input ended before; or less than it should be, or more than there is room for.
-#[derive(Drop)]
+#[derive(Clone, Copy)]
 pub enum Part {
     Whole(usize),
     Missing,

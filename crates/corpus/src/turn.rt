@@ -4,7 +4,7 @@ use cases::positions::least_entries;
 use cases::trial::{Call, Case, Verdict, compare, compare_message};
 
 /// The case was compared; or there was no record more; or it is cut short, or has a length past the buffer.
-#[derive(Drop)]
+#[derive(Clone, Copy)]
 pub enum Turn {
     Compared(Verdict),
     Ended,

@@ -6,7 +6,7 @@ ghost use Rattle.data.specs.Value.{value_of, is_large, end_of, found_of, answer_
 use areas::area::Out;
 
 /// That the data are absent, and nothing was written; where the next byte goes; or that the bytes did not fit.
-#[derive(Drop)]
+#[derive(Clone, Copy)]
 pub enum Value {
     Absent,
     At(usize),

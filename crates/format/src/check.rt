@@ -16,7 +16,7 @@ use crate::{head, view};
 use areas::span::Span;
 
 /// What the check of a lent piece, an array or a query, comes to.
-#[derive(Drop)]
+#[derive(Clone, Copy)]
 pub enum Check {
     Accepted,
     Overlong,
@@ -61,7 +61,7 @@ fn check_root(area: &[u8], tag: u8, content: Span) -> bool
 }
 
 /// Where the walk stands: among trees that end at `stop`, behind which labels above `last` follow.
-#[derive(Drop)]
+#[derive(Clone, Copy)]
 pub struct Place {
     pub at: usize,
     pub stop: usize,
@@ -70,7 +70,7 @@ pub struct Place {
 
 /// What stands at a place: a label or a tree without labels, and the place behind its heads or behind the tree; a tree
 /// with labels, and where they stand; nothing more; or nothing that may stand there.
-#[derive(Drop)]
+#[derive(Clone, Copy)]
 pub enum Step {
     On(Place),
     Labels(Span),

@@ -6,7 +6,7 @@ ghost use Rattle.format.specs.Head.{head_at, len_at, low_two, span_at};
 use areas::number::{two_at, wide};
 
 /// What stands at a place: a field, with its tag and where its content begins and ends; or none that is whole.
-#[derive(Drop)]
+#[derive(Clone, Copy)]
 pub enum Head {
     Field { tag: u8, from: usize, to: usize },
     Nothing,

@@ -12,7 +12,7 @@ use areas::number::wide;
 use areas::span::Span;
 
 /// Where the trees of a label's array stand, or that the label is missing.
-#[derive(Drop)]
+#[derive(Clone, Copy)]
 pub enum Found {
     Part(Span),
     Missing,

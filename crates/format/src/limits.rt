@@ -3,7 +3,7 @@ ghost use Rattle.std.specs.Prelude.{◌≡◌};
 ghost use Rattle.format.specs.Named.{named};
 
 /// The documents' limits. They belong to the format, so a test says `Limits::TREE` and never a number.
-#[derive(Drop)]
+#[derive(Clone, Copy)]
 pub struct Limits;
 
 impl Limits {
@@ -42,7 +42,7 @@ impl Limits {
 }
 
 /// The limits as values, so that a contract can speak of them all at once.
-#[derive(Drop)]
+#[derive(Clone, Copy)]
 pub struct Named {
     pub array: usize,
     pub tree: usize,

@@ -9,7 +9,7 @@ use crate::head;
 use crate::head::Head;
 
 /// A field that is to span the first `span` bytes of the slice.
-#[derive(Drop)]
+#[derive(Clone, Copy)]
 pub struct Field<'a> {
     pub bytes: &'a [u8],
     pub span: usize,

@@ -7,7 +7,7 @@ use map::map::Map;
 
 /// Places in a work area of 65,536 bytes, and distances. A tree has six bytes or more, so each has six bytes of its own
 /// below it, at three distances: as far below as the collected trees stand above the front part.
-#[derive(Drop)]
+#[derive(Clone, Copy)]
 pub struct Index;
 
 impl Index {
@@ -40,7 +40,7 @@ impl Index {
 }
 
 /// The places as values, so that a contract can speak of them all at once.
-#[derive(Drop)]
+#[derive(Clone, Copy)]
 pub struct Parts {
     pub numbers: usize,
     pub heads: usize,

@@ -8,7 +8,7 @@ ghost use Rattle.map.specs.Map.{parts};
 use format::limits::Limits;
 
 /// The parts of the work area that stand at fixed places, by name.
-#[derive(Drop)]
+#[derive(Clone, Copy)]
 pub struct Map;
 
 impl Map {
@@ -33,7 +33,7 @@ impl Map {
 }
 
 /// The parts as values, so that a contract can speak of them all at once.
-#[derive(Drop)]
+#[derive(Clone, Copy)]
 pub struct Parts {
     pub trees: usize,
     pub numbers: usize,

@@ -20,7 +20,7 @@ use queries::path::steps;
 
 /// A path, which stands in a query, and the tree to which it is applied. Spans by themselves are cheaper to pass on; this
 /// is for a function that would else have too many parameters.
-#[derive(Drop)]
+#[derive(Clone, Copy)]
 pub struct Application {
     pub path: Span,
     pub tree: Span,

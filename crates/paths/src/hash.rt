@@ -18,7 +18,7 @@ use queries::path::steps;
 
 /// Numbers are below the limit. The multiplier spreads the numbers of values that differ in few bytes; of a tree only the
 /// last bytes count, where trees of one kind differ.
-#[derive(Drop)]
+#[derive(Clone, Copy)]
 pub struct Hash;
 
 impl Hash {

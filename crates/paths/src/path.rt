@@ -19,14 +19,14 @@ use format::labels::{Found, find};
 use queries::path::{step_at, steps};
 
 /// Where a tree of an array stands; or that there are fewer, with what is left of its number when all are passed.
-#[derive(Drop)]
+#[derive(Clone, Copy)]
 pub enum Element {
     Part(Span),
     Fewer(usize),
 }
 
 /// Where the bytes that were looked for end; or that other bytes stand there.
-#[derive(Drop)]
+#[derive(Clone, Copy)]
 pub enum Compared {
     At(usize),
     Differs,

@@ -67,7 +67,7 @@ fn check_divisor(area: &[u8], content: Span) -> bool
 }
 
 /// What the check of a field that may hold no fields comes to; or it holds fields, which are to be checked.
-#[derive(Drop)]
+#[derive(Clone, Copy)]
 pub enum Told {
     Good,
     Fields,
@@ -76,7 +76,7 @@ pub enum Told {
 
 /// What stands next: a good field without fields, and where it ends; a field with fields; or nothing that may stand
 /// there.
-#[derive(Drop)]
+#[derive(Clone, Copy)]
 pub enum Next {
     Behind(usize),
     Inside { tag: u8, content: Span },

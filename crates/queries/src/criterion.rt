@@ -7,7 +7,7 @@ use areas::span::Span;
 
 /// A criterion by the places of its parts. A path's place, and a criterion's, is that of its whole field, an array's
 /// that of its trees.
-#[derive(Drop)]
+#[derive(Clone, Copy)]
 pub enum CriterionAt {
     Always,
     Exists(Span),

@@ -8,7 +8,7 @@ use areas::span::Span;
 
 /// Data by the places of their parts, as `CriterionAt` has them. A list's members stand one behind another; a reduced's
 /// divisor is a number.
-#[derive(Drop)]
+#[derive(Clone, Copy)]
 pub enum DataAt {
     Literal(Span),
     Path(Span),

@@ -5,14 +5,14 @@ use areas::area::field_end;
 use areas::span::Span;
 
 /// An item by the places of its parts, as `CriterionAt` has them.
-#[derive(Drop)]
+#[derive(Clone, Copy)]
 pub enum ItemAt {
     Keep(Span),
     Place(Span, Span),
 }
 
 /// The places of a pair's two paths.
-#[derive(Drop)]
+#[derive(Clone, Copy)]
 pub struct PairAt {
     pub source: Span,
     pub target: Span,

@@ -6,14 +6,14 @@ use areas::area::field_end;
 use areas::span::Span;
 
 /// Where the pairs of a group stand, one behind another: its aggregates, and the pairs of its key.
-#[derive(Drop)]
+#[derive(Clone, Copy)]
 pub struct GroupAt {
     pub aggregates: Span,
     pub keys: Span,
 }
 
 /// Where the paths of a lookup stand: the tree's, the joined trees', and where their matches are placed.
-#[derive(Drop)]
+#[derive(Clone, Copy)]
 pub struct LookupAt {
     pub own: Span,
     pub theirs: Span,
@@ -21,7 +21,7 @@ pub struct LookupAt {
 }
 
 /// A stage by the places of its parts, as `CriterionAt` has them. A project's items stand one behind another.
-#[derive(Drop)]
+#[derive(Clone, Copy)]
 pub enum StageAt {
     Match(Span),
     Unwind(Span),

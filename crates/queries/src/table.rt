@@ -8,12 +8,12 @@ use format::limits::Limits;
 
 /// What a child may be: its tag is the first number to the second, or the third, or the fourth, and its content has at
 /// least the fifth in bytes. The two further tags are wider than a byte, so that there is a number that no tag is.
-#[derive(Drop)]
+#[derive(Clone, Copy)]
 pub struct Child(pub u8, pub u8, pub u16, pub u16, pub u8);
 
 /// What may stand inside a field, by kinds: its first child, its second, and each later one; the least and the greatest
 /// count.
-#[derive(Drop)]
+#[derive(Clone, Copy)]
 pub struct Rule(pub u8, pub u8, pub u8, pub u8, pub u8);
 
 // The kinds of children.

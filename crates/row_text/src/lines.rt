@@ -48,7 +48,7 @@ pub fn next_line(text: &[u8], from: usize) -> usize
 }
 
 /// What a line is looked for by.
-#[derive(Drop)]
+#[derive(Clone, Copy)]
 pub enum Kind {
     /// It says something: it is neither blank nor a comment.
     Telling,

@@ -4,7 +4,7 @@
 use crate::lines::{byte_at, further};
 
 /// How far a text is read. A step that cannot go on stays where it is, so that the text is not read to its end.
-#[derive(Drop)]
+#[derive(Clone, Copy)]
 struct Spot {
     /// The place in the text.
     at: usize,
@@ -46,7 +46,7 @@ fn longer(value: usize, digit: u8) -> usize {
 }
 
 /// A decimal number, and the place behind it.
-#[derive(Drop)]
+#[derive(Clone, Copy)]
 pub struct Numeral {
     pub value: usize,
     pub next: usize,
@@ -199,7 +199,7 @@ fn steps(text: &[u8], bytes: &mut [u8], from: usize) -> Spot {
 }
 
 /// Where the bytes end, and whether the text says some and there is room for them.
-#[derive(Drop)]
+#[derive(Clone, Copy)]
 pub struct Written {
     pub end: usize,
     pub sound: bool,

@@ -4,7 +4,7 @@ use crate::notation::{decimal, write};
 use crate::parts::{behind, part};
 
 /// How far a row is read.
-#[derive(Drop)]
+#[derive(Clone, Copy)]
 pub struct Place {
     /// The place in the row.
     pub at: usize,

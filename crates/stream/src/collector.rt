@@ -11,7 +11,7 @@ use map::map::Map;
 /// What the collector holds: so many bytes; more than an array may have; or that a tree was too large, which ends the
 /// run. The number has two bytes: eight would bring seven of padding, copied in overlapping pieces, for which a
 /// processor waits.
-#[derive(Drop)]
+#[derive(Clone, Copy)]
 pub enum Collector {
     Len(u16),
     Over,

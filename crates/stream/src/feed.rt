@@ -25,14 +25,14 @@ use queries::stage::{LookupAt, StageAt, stage_at};
 use unwind::unwind::{outcomes, put_element, put_outcome};
 
 /// Where the one part of a stage stands (a criterion, a path, items), and the stages behind it.
-#[derive(Drop)]
+#[derive(Clone, Copy)]
 pub struct PartAt {
     pub part: Span,
     pub next: Span,
 }
 
 /// A label, and where the trees of its array stand.
-#[derive(Drop)]
+#[derive(Clone, Copy)]
 pub struct Entry {
     pub label: u16,
     pub trees: Span,

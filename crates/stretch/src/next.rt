@@ -8,14 +8,14 @@ use areas::span::Span;
 use queries::stage::{GroupAt, StageAt, stage_at};
 
 /// A group's pairs, and the stages behind it.
-#[derive(Drop)]
+#[derive(Clone, Copy)]
 pub struct StretchAt {
     pub group: GroupAt,
     pub next: Span,
 }
 
 /// The next group with the stages behind it; or there is none.
-#[derive(Drop)]
+#[derive(Clone, Copy)]
 pub enum Next {
     Group(StretchAt),
     End,

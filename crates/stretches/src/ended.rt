@@ -2,7 +2,7 @@
 
 /// With an array, of whose trees the collector holds so many bytes; or a tree was too large; an array that enters a
 /// group was too long; a total of one of its classes does not fit; the last array is longer than an array may be.
-#[derive(Drop)]
+#[derive(Clone, Copy)]
 pub enum Ended {
     Held(usize),
     Large,

@@ -22,7 +22,7 @@ pub fn last(collector: Collector) -> Ended
 
 /// What became of an array that entered a group: what left the stretch is collected; or a total of one of its classes
 /// does not fit.
-#[derive(Drop)]
+#[derive(Clone, Copy)]
 pub enum Grouped {
     Collected(Collector),
     Overflow,

@@ -7,7 +7,7 @@ ghost use Rattle.spec_trees.specs.Decode.{signed};
 ghost use Rattle.totals.specs.Exact.{middle, IsTotal, Sound, Adds, Fits, BitsOf};
 
 /// How many integers were added, and their sum, which is (high - MIDDLE) * HALF + low.
-#[derive(Drop)]
+#[derive(Clone, Copy)]
 pub struct Total {
     pub count: u64,
     pub high: u64,

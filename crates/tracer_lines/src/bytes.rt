@@ -4,7 +4,7 @@ ghost use Rattle.spec_tracer.specs.Message.{is_capital, is_digit, is_name_byte, 
 ghost use Rattle.tracer_lines.specs.Piece.{piece_end, stands_at};
 
 /// The bytes that part a line.
-#[derive(Drop)]
+#[derive(Clone, Copy)]
 pub struct Mark;
 
 impl Mark {

@@ -6,7 +6,7 @@ ghost use Rattle.tracer_lines.specs.Piece.{part};
 ghost use Rattle.tracer_lines.specs.Label.{word_label, NameAt};
 
 /// The seven names, each as one number, its bytes high byte first.
-#[derive(Drop)]
+#[derive(Clone, Copy)]
 pub struct Name;
 
 impl Name {

@@ -3,7 +3,7 @@ ghost use Rattle.std.specs.Prelude.{◌≡◌};
 ghost use Rattle.tracer_lines.specs.Named.{named};
 
 /// In bytes; the last in digits. They belong to the message, so a test says `MessageLimits::VALUE` and never a number.
-#[derive(Drop)]
+#[derive(Clone, Copy)]
 pub struct MessageLimits;
 
 impl MessageLimits {
@@ -17,7 +17,7 @@ impl MessageLimits {
 }
 
 /// The limits as values, so that a contract can speak of them all at once.
-#[derive(Drop)]
+#[derive(Clone, Copy)]
 pub struct MessageNamed {
     pub message: usize,
     pub name: usize,

@@ -6,7 +6,7 @@ use crate::bytes::{Mark, is_capital, name_end, stands, value_end};
 use crate::limits::MessageLimits;
 
 /// Where the values of a line end; or that they are out of form.
-#[derive(Drop)]
+#[derive(Clone, Copy)]
 pub enum End {
     At(usize),
     Malformed,
@@ -14,7 +14,7 @@ pub enum End {
 
 /// A line: where its name ends, and where the next line begins; or that it is out of form. Its values begin behind the
 /// equals sign, which ends the name.
-#[derive(Drop)]
+#[derive(Clone, Copy)]
 pub enum Line {
     Read { name: usize, next: usize },
     Malformed,

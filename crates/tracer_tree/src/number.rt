@@ -9,7 +9,7 @@ use tracer_lines::bytes::{digits_end, is_digit, stands};
 use tracer_lines::limits::MessageLimits;
 
 /// The bytes of a number that are no digits.
-#[derive(Drop)]
+#[derive(Clone, Copy)]
 pub struct Sign;
 
 impl Sign {
@@ -19,14 +19,14 @@ impl Sign {
 }
 
 /// An amount of hundredths; or that the bytes are no number.
-#[derive(Drop)]
+#[derive(Clone, Copy)]
 pub enum Amount {
     Hundredths(u64),
     Nothing,
 }
 
 /// The bits of an integer; or that the bytes are no number.
-#[derive(Drop)]
+#[derive(Clone, Copy)]
 pub enum Number {
     Bits(u64),
     Nothing,

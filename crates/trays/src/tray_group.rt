@@ -13,7 +13,7 @@ use queries::path::{step_at, steps};
 use queries::stage::{GroupAt, StageAt, stage_at, stages_of};
 
 /// Where the pairs of such a group stand; or the query is another.
-#[derive(Drop)]
+#[derive(Clone, Copy)]
 pub enum TrayGroup {
     At(GroupAt),
     Other,

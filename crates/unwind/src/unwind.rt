@@ -16,7 +16,7 @@ use queries::path::{step_at, steps};
 
 /// The j-th outcome was written, with this answer; or there are not so many, and this many more are asked than there
 /// are.
-#[derive(Drop)]
+#[derive(Clone, Copy)]
 pub enum Nth {
     Written(Out),
     Past(usize),

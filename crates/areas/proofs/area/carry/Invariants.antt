@@ -1,0 +1,12 @@
+use Rattle.std.proofs.Common.{arith, rules, ◌≡◌, refl, ap, ◌∙◌, ◌-◌, ◌≤◌, length, take, drop, length-set}
+use lib.Seq.{paste, paste-zero}
+use Rattle.areas.specs.AreaLaws.{carry_more}
+use Rattle.areas.proofs.area.carry.Given as goal
+
+abbrev pub invariant-loop-i : goal.invariant-loop-i
+invariant-loop-i l =
+    (l.i ≤ l.len) × (length l.work ≡ length l.initial.work) × (l.work ≡ paste l.initial.work l.to (take l.len (drop
+    l.from l.initial.work)) l.i)
+
+abbrev pub decreases-loop-i : goal.decreases-loop-i
+decreases-loop-i l = l.len - l.i

@@ -1,0 +1,11 @@
+use Rattle.std.proofs.Common.{rules, ◌≡◌, refl, ◌-◌, ◌≤◌, arith, length, length-set}
+use Rattle.areas.specs.AreaLaws.{Backwards, back_begin, back_more, back_end}
+use Rattle.areas.proofs.area.copy_down.Given as goal
+
+abbrev pub invariant-loop-i : goal.invariant-loop-i
+invariant-loop-i l =
+    (l.i ≤ l.initial.i) × (length l.work ≡ length l.initial.work) × Backwards l.initial.work l.from l.initial.i l.to
+    l.work l.i
+
+abbrev pub decreases-loop-i : goal.decreases-loop-i
+decreases-loop-i l = l.i

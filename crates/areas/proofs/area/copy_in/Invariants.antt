@@ -1,0 +1,12 @@
+use Rattle.std.proofs.Common.{arith, rules, ◌≡◌, refl, ap, ◌∙◌, ◌+◌, ◌-◌, ◌≤◌, length, get_or, set, length-set}
+use lib.Seq.{paste, paste-zero}
+use Rattle.areas.specs.AreaLaws.{no_room, paste_more, pasted}
+use Rattle.areas.proofs.area.copy_in.Given as goal
+
+abbrev pub invariant-loop-i : goal.invariant-loop-i
+invariant-loop-i l =
+    (l.i ≤ length l.source) × (length l.work ≡ length l.initial.work) × (l.work ≡ paste l.initial.work l.from l.source
+    l.i)
+
+abbrev pub decreases-loop-i : goal.decreases-loop-i
+decreases-loop-i l = length l.source - l.i
