@@ -1,0 +1,15 @@
+use Rattle.std.proofs.Common.{arith, rules, refl, sym, ap, ◌∙◌, ◌+◌, ◌-◌}
+use Rattle.areas.specs.Area.{span}
+use Rattle.format.specs.declared.labels.Found.{Found}
+use Rattle.format.specs.Stand.{labels_bytes, Holds, Finds}
+use Rattle.format.specs.StandLaws.{heads_most, labels_places, holds_others}
+use Rattle.format.specs.LabelLaws.{finds_none, finds_here, finds_next}
+use Rattle.format.proofs.labels.find.Given as goal
+
+abbrev pub invariant-loop-at : goal.invariant-loop-at
+invariant-loop-at l =
+    Holds labels_bytes l.area l.at l.end × ((r : Found) → Finds l.area (span l.at l.end) l.label r → Finds l.area (span
+    l.initial.at l.end) l.label r)
+
+abbrev pub decreases-loop-at : goal.decreases-loop-at
+decreases-loop-at l = l.end - l.at
