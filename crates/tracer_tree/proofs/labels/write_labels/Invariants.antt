@@ -1,0 +1,11 @@
+use Rattle.std.proofs.Common.{arith, rules, ◌-◌}
+use Rattle.areas.specs.Area.{span}
+use Rattle.tracer_tree.specs.Labels.{Writing}
+use Rattle.tracer_tree.specs.LabelsLaws.{writing_begins, writing_next, writing_fails, writing_ends}
+use Rattle.tracer_tree.proofs.labels.write_labels.Given as goal
+
+abbrev pub invariant-loop-label : goal.invariant-loop-label
+invariant-loop-label l = Writing l.message l.places l.initial.out l.out (span l.initial.at l.to) l.label l.at
+
+abbrev pub decreases-loop-label : goal.decreases-loop-label
+decreases-loop-label l = 8 - l.label
