@@ -56,7 +56,7 @@ unfolding bytes tree_f tree_bytes
 array_behind {w} {p} {m} {e} [] t h k = let z : m ≡ p = omega (arith, h.ends) in subst (λ i. Is w i e (array_trees (t ∷ []))) z (is_alone t k)
 array_behind {w} {p} {m} {e} (x ∷ xs) t h k =
     let y : p + length (tree_bytes x) ≡ p + length (tree_bytes x) = refl in
-    array_before x (xs ++ (t ∷ [])) (is_left (tree_bytes x) (array_trees xs) y h) (array_behind xs t (is_right (tree_bytes x) (array_trees xs) y h) k)
+    array_before x (xs ++ (t ∷ [])) (is_left (tree_bytes x) (array_trees xs) y h) (array_behind {p = p + length (tree_bytes x)} xs t (is_right (tree_bytes x) (array_trees xs) y h) k)
 
 -- the trees of an array stand behind its head
 pub array_reads : (s : List ℕ) (ts : List Tree) → s ≡ array_bytes ts → Is s 3 (length s) (array_trees ts)
