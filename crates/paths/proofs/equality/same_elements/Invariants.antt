@@ -1,0 +1,16 @@
+use Rattle.std.proofs.Common.{arith, rules, ◌≡◌, sym, ◌∙◌, ℕ, ◌-◌, ◌≤◌, ◌<◌, get_or}
+use borrow.Author.Tests.{not-true, not-false}
+use Rattle.spec_trees.specs.Tree.{bare_void}
+use Rattle.spec_trees.specs.Bytes.{tree_bytes}
+use Rattle.spec_stages.specs.Paths.{apply}
+use Rattle.paths.specs.Walk.{given, TellsBoth}
+use Rattle.paths.specs.EqualLaws.{elements_count, elements_other, elements_more, elements_all}
+use Rattle.paths.proofs.equality.same_elements.Given as goal
+
+abbrev pub invariant-loop-j : goal.invariant-loop-j
+invariant-loop-j l =
+    (l.j ≤ l.n) × TellsBoth l.query l.area l.one l.area2 l.other (λ x y. (k : ℕ) → k < l.j → tree_bytes (get_or (given
+    x) k bare_void) ≡ tree_bytes (get_or (given y) k bare_void))
+
+abbrev pub decreases-loop-j : goal.decreases-loop-j
+decreases-loop-j l = l.n - l.j

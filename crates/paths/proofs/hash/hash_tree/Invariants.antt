@@ -1,0 +1,14 @@
+use Rattle.std.proofs.Common.{arith, rules, ◌≡◌, refl, ◌∙◌, ◌-◌, ◌≤◌, ◌<◌}
+use lib.Seq.{slice}
+use Rattle.paths.specs.Hash.{hash_limit, bytes_hash}
+use Rattle.paths.specs.HashLaws.{bytes_end, bytes_next, tree_last}
+use Rattle.paths.specs.ComparedLaws.{holds_span}
+use Rattle.paths.proofs.hash.hash_tree.Given as goal
+
+abbrev pub invariant-loop-at : goal.invariant-loop-at
+invariant-loop-at l =
+    (l.at ≤ l.end) × (l.h < hash_limit) × (bytes_hash l.h (slice l.at l.end l.area) ≡ bytes_hash l.number (slice
+    l.initial.at l.end l.area))
+
+abbrev pub decreases-loop-at : goal.decreases-loop-at
+decreases-loop-at l = l.end - l.at

@@ -1,0 +1,24 @@
+use Rattle.std.proofs.Common.{arith, rules, ◌≡◌, refl, ◌∙◌, ℕ, ◌+◌, ◌*◌, ◌-◌, ◌≤◌, length, ◌<◌}
+use Rattle.format.specs.Stand.{trees_bytes}
+use Rattle.format.specs.StandLaws.{tree_places}
+use Rattle.areas.specs.Area.{span}
+use Rattle.queries.specs.StepLaws.{steps_fewer}
+use Rattle.paths.specs.Walk.{given, Walk, TellsJoined}
+use Rattle.paths.specs.WalkLaws.{tells_end, tells_missing, tells_part, over_given, walk_inside, walk_room, walk_part, part_places, walk_first, walk_rest, walk_places, step_left}
+use Rattle.paths.specs.ElementLaws.{count_one, count_none, count_end, count_next}
+use Rattle.paths.proofs.path.+counting.Given as goal
+
+abbrev pub decreases-count : goal.decreases-count
+decreases-count l = 2 * (l.path.to - l.i)
+
+abbrev pub decreases-count_over : goal.decreases-count_over
+decreases-count_over l = 2 * (l.path.to - l.i) + 1
+
+abbrev pub invariant-count_over-loop-at : goal.invariant-count_over-loop-at
+invariant-count_over-loop-at l =
+    Walk trees_bytes l.query l.path l.i l.area (span l.at l.end) × (l.initial.at ≤ l.at) × (l.n ≤ l.at - l.initial.at) ×
+    ((k : ℕ) → TellsJoined l.query l.path l.i l.area (span l.at l.end) (λ x. k ≡ l.n + length (given x)) → TellsJoined
+    l.query l.path l.i l.area (span l.initial.at l.end) (λ x. k ≡ length (given x)))
+
+abbrev pub decreases-count_over-loop-at : goal.decreases-count_over-loop-at
+decreases-count_over-loop-at l = l.end - l.at

@@ -1,0 +1,12 @@
+use Rattle.std.proofs.Common.{arith, rules, ◌≡◌, refl, ap, ◌∙◌, ◌++◌, ◌-◌, ◌≤◌, length, drop, set, replicate, length-set}
+use borrow.Author.Fill.{fill_more}
+use Rattle.areas.specs.AreaLaws.{cleared}
+use Rattle.positions.proofs.entries.clear_entries.Given as goal
+
+abbrev pub invariant-loop-i : goal.invariant-loop-i
+invariant-loop-i l =
+    (l.i ≤ length l.initial.entries) × (length l.entries ≡ length l.initial.entries) × (l.entries ≡ replicate l.i 0 ++
+    drop l.i l.initial.entries)
+
+abbrev pub decreases-loop-i : goal.decreases-loop-i
+decreases-loop-i l = length l.initial.entries - l.i
