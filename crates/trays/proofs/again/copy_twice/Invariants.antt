@@ -1,0 +1,9 @@
+use Rattle.std.proofs.Common.{rules, refl, ◌-◌, ◌≤◌, arith, length, length-set}
+use Rattle.trays.specs.AgainLaws.{TwiceGoing, twice_begin, twice_next, twice_end}
+use Rattle.trays.proofs.again.copy_twice.Given as goal
+
+abbrev pub invariant-loop-i : goal.invariant-loop-i
+invariant-loop-i l = (l.i ≤ length l.source) × TwiceGoing l.initial.out l.at l.source l.out l.i
+
+abbrev pub decreases-loop-i : goal.decreases-loop-i
+decreases-loop-i l = length l.source - l.i
