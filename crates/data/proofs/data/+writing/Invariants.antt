@@ -1,0 +1,24 @@
+use Rattle.std.proofs.Common.{arith, rules, ◌≡◌, refl, sym, ◌∙◌, List, false, ℕ, ◌+◌, ◌*◌, ◌-◌, length, ◌<◌}
+use Rattle.areas.specs.Area.{span}
+use Rattle.queries.specs.Places.{datas_bytes}
+use Rattle.queries.specs.PartLaws.{holds_of}
+use Rattle.data.specs.declared.value.Value.{Value}
+use Rattle.data.specs.Write.{DataReady, Gives, NestedDs, listed_from}
+use Rattle.data.specs.WriteDataLaws.{left_some, literal_places, path_ready, listed_ready, test_ready, choice_judged, choice_first, choice_second, reduced_ready, gives_literal, gives_path, gives_listed, gives_test, gives_first, gives_second, gives_reduced, list_done, list_places, list_first, list_rest, list_stop, list_next}
+use Rattle.data.proofs.data.+writing.Given as goal
+
+abbrev pub decreases-write_data : goal.decreases-write_data
+decreases-write_data l = 2 * l.left
+
+abbrev pub decreases-write_list : goal.decreases-write_list
+decreases-write_list l = 2 * l.left + 1
+
+abbrev pub invariant-write_list-loop-at : goal.invariant-write_list-loop-at
+invariant-write_list-loop-at l =
+    DataReady (NestedDs l.left) datas_bytes l.query (span l.at l.end) l.work l.tree (span l.to l.stop) × (length l.work
+    ≡ length l.initial.work) × ((u : List ℕ) (r : Value) → Gives (NestedDs l.left) datas_bytes (listed_from l.any)
+    l.query (span l.at l.end) l.work u l.tree (span l.to l.stop) r → Gives (NestedDs l.left) datas_bytes (listed_from
+    false) l.query (span l.initial.at l.end) l.initial.work u l.tree (span l.initial.to l.stop) r)
+
+abbrev pub decreases-write_list-loop-at : goal.decreases-write_list-loop-at
+decreases-write_list-loop-at l = l.end - l.at

@@ -1,0 +1,20 @@
+use Rattle.std.proofs.Common.{arith, rules, ◌≡◌, refl, sym, ◌∙◌, List, false, ℕ, ◌-◌, length}
+use Rattle.format.specs.Stand.{trees_bytes}
+use Rattle.areas.specs.Area.{span}
+use Rattle.data.specs.declared.value.Value.{Value}
+use Rattle.paths.specs.Walk.{TellsJoined}
+use Rattle.paths.specs.WalkLaws.{walk_places}
+use Rattle.data.specs.Write.{WalkReady, WroteParts}
+use Rattle.data.specs.WritePathLaws.{over_empty, over_walked, walk_done, walk_stop, walk_next, ready_first, ready_rest}
+use Rattle.data.specs.WriteDataLaws.{over_plain}
+use Rattle.data.proofs.data.write_path_over.Given as goal
+
+abbrev pub invariant-loop-from : goal.invariant-loop-from
+invariant-loop-from l =
+    WalkReady trees_bytes l.query l.path 0 l.work (span l.from l.end) (span l.to l.stop) 0 × (length l.work ≡ length
+    l.initial.work) × ((u : List ℕ) (r : Value) → TellsJoined l.query l.path 0 l.work (span l.from l.end) (WroteParts 0
+    l.any l.work u (span l.to l.stop) r) → TellsJoined l.query l.path 0 l.initial.work (span l.initial.from l.end)
+    (WroteParts 0 false l.initial.work u (span l.initial.to l.stop) r))
+
+abbrev pub decreases-loop-from : goal.decreases-loop-from
+decreases-loop-from l = l.end - l.from

@@ -1,0 +1,13 @@
+-- The proof of data::data::write_test, by answers to its goals.
+use Rattle.std.proofs.Common.{rules, arith}
+use Rattle.data.specs.WriteDataLaws.{gives_tested}
+use Rattle.data.proofs.data.write_test.Goals as goal
+
+pub holds-yes-requires : goal.holds-yes-requires
+holds-yes-requires c = record { criterion = c.requires.asked; tree = c.requires.tree }
+
+pub put_boolean-requires : goal.put_boolean-requires
+put_boolean-requires c = (c.requires.room, c.requires.area)
+
+pub returns : goal.returns
+returns c = gives_tested c.args.left c.value_of.ensures c.holds-yes.ensures c.put_boolean.ensures
