@@ -38,5 +38,5 @@ all_stood {w} {a} {e} (t ∷ ts) o h l u =
     let n = h.ends in
     let m = length_cons t ts in (
       record { ok = o.0; stands = is_left (tree_bytes t) (array_trees ts) refl k; above = l; within = omega arith },
-      all_stood ts o.1 (is_right (tree_bytes t) (array_trees ts) refl k) (omega arith) u,
+      all_stood {a = a + length (tree_bytes t)} ts o.1 (is_right (tree_bytes t) (array_trees ts) refl k) (omega arith) u,
     )
