@@ -1,0 +1,16 @@
+use Rattle.std.proofs.Common.{arith, refl, ◌-◌, rules}
+use Rattle.format.specs.Stand.{trees_bytes, Holds}
+use Rattle.format.specs.StandLaws.{trees_places, holds_first, holds_rest}
+use Rattle.areas.specs.Area.{span}
+use Rattle.totals.specs.declared.exact.Total.{Total}
+use Rattle.totals.specs.Sum.{Summed, AddsPart}
+use Rattle.totals.specs.SumLaws.{summed_same, summed_seq, summed_end, ready_next, ready_first, trees_end, trees_next}
+use Rattle.totals.proofs.sum.sum_trees.Given as goal
+
+abbrev pub invariant-loop-at : goal.invariant-loop-at
+invariant-loop-at l =
+    Holds trees_bytes l.area l.at l.end × Summed l.initial.sum l.sum (span l.initial.at l.at) × ((k : Total) → AddsPart
+    l.area (span l.at l.end) l.sum k → AddsPart l.area (span l.initial.at l.end) l.initial.sum k)
+
+abbrev pub decreases-loop-at : goal.decreases-loop-at
+decreases-loop-at l = l.end - l.at
