@@ -37,7 +37,7 @@ two_at-at-requires c =
     omega (
       arith,
       law.copying_places c.requires (c.loop-at.invariant.1 c.requires) c.loop-at-test.true,
-      c.place-so_far.auto.0,
+      c.place-so_far.auto.work,
     )
 
 pub loop-at-smaller : goal.loop-at-smaller
@@ -52,7 +52,7 @@ loop-at-smaller c =
 
 pub loop-at-preserved : goal.loop-at-preserved
 loop-at-preserved c = (
-  c.place-so_far.auto.0 ∙ c.loop-at.invariant.0,
+  c.place-so_far.auto.work ∙ c.loop-at.invariant.0,
   λ l. law.copying_next l (c.loop-at.invariant.1 l)
       c.loop-at-test.true c.field_end-m.ensures c.place-so_far.ensures c.two_at-at.ensures.0,
 )

@@ -1,0 +1,18 @@
+use Rattle.std.proofs.Common.{arith, rules, ◌≡◌, refl, ◌∙◌, List, ℕ, ◌-◌, length}
+use Rattle.areas.specs.declared.area.Out.{Out}
+use Rattle.spec_trees.specs.Lists.{All}
+use Rattle.spec_queries.specs.Rules.{OkI}
+use Rattle.areas.specs.Area.{span}
+use Rattle.queries.specs.Places.{items_bytes}
+use Rattle.project.specs.Project.{Building, BuildsFrom}
+use Rattle.project.specs.ProjectLaws.{project_begun, project_from, items_done, items_places, items_first, items_rest, items_stop, items_next}
+use Rattle.project.proofs.project.project.Given as goal
+
+abbrev pub invariant-loop-from : goal.invariant-loop-from
+invariant-loop-from l =
+    Building (All OkI) items_bytes l.work l.query (span l.from l.end) l.tree (span l.at l.to) × (length l.work ≡ length
+    l.initial.work) × ((v : List ℕ) (r : Out) → BuildsFrom l.work v l.query (span l.from l.end) l.tree (span l.at l.to)
+    r → BuildsFrom l.initial.work v l.query (span l.initial.from l.end) l.tree (span l.at l.initial.to) r)
+
+abbrev pub decreases-loop-from : goal.decreases-loop-from
+decreases-loop-from l = l.end - l.from
