@@ -1,0 +1,19 @@
+use Rattle.std.proofs.Common.{arith, rules, ◌≡◌, refl, ◌∙◌, List, ℕ, ◌-◌, length}
+use Rattle.areas.specs.declared.area.Out.{Out}
+use Rattle.spec_queries.specs.Bytes.{pair_f}
+use Rattle.queries.specs.PartLaws.{holds_of, list_places}
+use Rattle.areas.specs.Area.{span}
+use Rattle.group.specs.Grow.{one_part, aggregate_value, Fits, ClassAt, PairsReady, PairsGrow}
+use Rattle.group.specs.GrowLaws.{pairs_done, pairs_first, pairs_stop, pairs_rest, pairs_next}
+use Rattle.group.specs.PairLaws.{class_keep}
+use Rattle.group.proofs.class.add_aggregates.Given as goal
+
+abbrev pub invariant-loop-at : goal.invariant-loop-at
+invariant-loop-at l =
+    PairsReady (ClassAt l.members l.base) Fits l.work l.query (span l.at l.last) (span l.base l.to) × (length l.work ≡
+    length l.initial.work) × ((u : List ℕ) (r : Out) → PairsGrow (ClassAt l.members l.base) Fits (one_part
+    aggregate_value) l.work u l.query (span l.at l.last) (span l.base l.to) r → PairsGrow (ClassAt l.members l.base)
+    Fits (one_part aggregate_value) l.initial.work u l.query (span l.initial.at l.last) (span l.base l.initial.to) r)
+
+abbrev pub decreases-loop-at : goal.decreases-loop-at
+decreases-loop-at l = l.last - l.at

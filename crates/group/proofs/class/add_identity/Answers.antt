@@ -1,0 +1,47 @@
+-- The proof of group::class::add_identity, by answers to its goals.
+use Rattle.std.proofs.Common.{arith, ◌∙◌, rules}
+use Rattle.queries.specs.PartLaws.{holds_of}
+use Rattle.group.specs.Grow.{identity_value, Always, FirstAt}
+use Rattle.group.specs.PairLaws.{first_sound, target_along, target_places, value_ready, part_adding, part_grows, identity_ready, identity_values}
+use Rattle.group.proofs.class.add_identity.Goals as goal
+
+pub pair_at-at-requires : goal.pair_at-at-requires
+pair_at-at-requires c = holds_of c.requires.asked
+
+pub heads_room-n-requires : goal.heads_room-n-requires
+heads_room-n-requires c = target_along (FirstAt c.args.first c.args.built.from) Always c.requires c.pair_at-at.ensures
+
+pub overflow_add-inner : goal.overflow_add-inner
+overflow_add-inner c =
+    omega (
+      arith,
+      (target_places (FirstAt c.args.first c.args.built.from) Always c.requires c.pair_at-at.ensures),
+      c.heads_room-n.ensures,
+    )
+
+pub write_path-r-requires : goal.write_path-r-requires
+write_path-r-requires c =
+    identity_ready c.pair_at-at.ensures c.requires c.heads_room-n.result (omega (
+      arith,
+      c.heads_room-n.ensures,
+      (target_places (FirstAt c.args.first c.args.built.from) Always c.requires c.pair_at-at.ensures).0,
+    ))
+
+pub place_value-o-requires : goal.place_value-o-requires
+place_value-o-requires c =
+    value_ready (FirstAt c.args.first c.args.built.from) Always c.requires c.pair_at-at.ensures identity_value
+    first_sound c.heads_room-n.ensures c.write_path-r.auto.work (identity_values c.pair_at-at.ensures
+    c.write_path-r.ensures)
+
+pub add_written-requires : goal.add_written-requires
+add_written-requires c =
+    part_adding (FirstAt c.args.first c.args.built.from) Always c.requires c.pair_at-at.ensures identity_value
+    first_sound c.heads_room-n.ensures c.write_path-r.auto.work (identity_values c.pair_at-at.ensures
+    c.write_path-r.ensures) c.place_value-o.ensures ((c.place_value-o.auto.work ∙ c.write_path-r.auto.work))
+
+pub returns : goal.returns
+returns c =
+    part_grows (FirstAt c.args.first c.args.built.from) Always c.requires c.pair_at-at.ensures identity_value
+    first_sound c.heads_room-n.ensures c.write_path-r.auto.work (identity_values c.pair_at-at.ensures
+    c.write_path-r.ensures) c.place_value-o.ensures ((c.place_value-o.auto.work ∙ c.write_path-r.auto.work))
+    c.add_written.ensures
