@@ -1,0 +1,51 @@
+use Rattle.std.proofs.Common.{arith, rules, refl, sym, ◌∙◌, ◌*◌, ◌+◌, ◌-◌, ◌≤◌, ℕ, ◌<◌}
+use Rattle.spec_trees.specs.Limits.{nest_max}
+use Rattle.format.specs.StandLaws.{tree_places, holds_labels}
+use Rattle.spec_queries.specs.Query.{match, unwind, project}
+use Rattle.spec_queries.specs.Rules.{OkP, NestedC}
+use Rattle.queries.specs.Places.{path_bytes, criterion_bytes, items_bytes}
+use Rattle.place.specs.WriterLaws.{along_room, along_inside}
+use Rattle.stream.specs.Feed.{OkItems}
+use Rattle.stream.specs.FeedLaws as law
+use Rattle.stream.specs.Unwinding.{Unwinding, LeftFrom, LeftUnder}
+use Rattle.stream.specs.UnwindLaws as each
+use Rattle.stream.proofs.feed.+feeding.Given as goal
+
+abbrev pub decreases-feed : goal.decreases-feed
+decreases-feed l = 4 * (l.stages.to - l.stages.from)
+
+abbrev pub decreases-feed_each : goal.decreases-feed_each
+decreases-feed_each l = 4 * (l.at.next.to - l.at.next.from) + 1
+
+abbrev pub decreases-feed_elements : goal.decreases-feed_elements
+decreases-feed_elements l = 4 * (l.at.next.to - l.at.next.from) + 2
+
+abbrev pub decreases-feed_looked : goal.decreases-feed_looked
+decreases-feed_looked l = 4 * (l.stages.to - l.stages.from) + 1
+
+abbrev pub decreases-feed_matched : goal.decreases-feed_matched
+decreases-feed_matched l = 4 * (l.at.next.to - l.at.next.from) + 1
+
+abbrev pub decreases-feed_outcomes : goal.decreases-feed_outcomes
+decreases-feed_outcomes l = 4 * (l.at.next.to - l.at.next.from) + 1
+
+abbrev pub decreases-feed_projected : goal.decreases-feed_projected
+decreases-feed_projected l = 4 * (l.at.next.to - l.at.next.from) + 1
+
+abbrev pub decreases-feed_unwound : goal.decreases-feed_unwound
+decreases-feed_unwound l = 4 * (l.at.next.to - l.at.next.from) + 3
+
+abbrev pub invariant-feed_each-loop-from : goal.invariant-feed_each-loop-from
+invariant-feed_each-loop-from l =
+    Unwinding (LeftUnder l.entry.label l.initial.tail l.from l.stop) l.initial.tail l.end l.query l.at l.joined
+    l.initial.held l.tail l.held
+
+abbrev pub decreases-feed_each-loop-from : goal.decreases-feed_each-loop-from
+decreases-feed_each-loop-from l = l.stop - l.from
+
+abbrev pub invariant-feed_outcomes-loop-i : goal.invariant-feed_outcomes-loop-i
+invariant-feed_outcomes-loop-i l =
+    Unwinding (LeftFrom l.i) l.initial.tail l.end l.query l.at l.joined l.initial.held l.tail l.held
+
+abbrev pub decreases-feed_outcomes-loop-i : goal.decreases-feed_outcomes-loop-i
+decreases-feed_outcomes-loop-i l = l.n - l.i
