@@ -16,7 +16,8 @@ mod record;
 mod turn;
 
 use crate::count::count;
+use std::io;
 
-fn main() {
-    count();
+fn main(rt: HostRuntime) -> io::Result<()> {
+    count(&mut rt.reader(), &mut io::writer(&rt))
 }

@@ -2,6 +2,8 @@
 use crate::record::{Part, read_number, read_part};
 use cases::positions::least_entries;
 use cases::trial::{Call, Case, Verdict, compare, compare_message};
+use std::io;
+use std::io::Read;
 
 /// The case was compared; or there was no record more; or it is cut short, or has a length past the buffer.
 #[derive(Clone, Copy)]
@@ -38,45 +40,51 @@ fn is_stated(marked: usize) -> bool {
 }
 
 /// Reads how many entries the position area has, or takes as many as a run needs.
-fn read_entries(stated: bool) -> Part {
+fn read_entries<R: Read>(input: &mut R, stated: bool) -> io::Result<Part> {
     if stated {
-        return read_number(2);
+        return read_number(input, 2);
     }
-    Part::Whole(least_entries())
+    Ok(Part::Whole(least_entries()))
 }
 
 /// Reads the positions that are stated to a place of a buffer: where they end.
-fn read_positions(stated: bool, buffer: &mut [u8], from: usize) -> Part {
+fn read_positions<R: Read>(
+    input: &mut R,
+    stated: bool,
+    buffer: &mut [u8],
+    from: usize,
+) -> io::Result<Part> {
     if stated {
-        return read_part(buffer, from);
+        return read_part(input, buffer, from);
     }
-    Part::Whole(from)
+    Ok(Part::Whole(from))
 }
 
 /// Reads what is behind the length of the work area, which is `marked`, and runs the case. The query ends at
 /// `query_end`, the arrays at the other two places.
-fn behind_work(
+fn behind_work<R: Read>(
+    input: &mut R,
     marked: usize,
     query_end: usize,
     first_end: usize,
     second_end: usize,
     bytes: &mut [u8],
-) -> Turn {
-    let Part::Whole(room) = read_number(2) else {
-        return Turn::Malformed;
+) -> io::Result<Turn> {
+    let Part::Whole(room) = read_number(input, 2)? else {
+        return Ok(Turn::Malformed);
     };
     let stated = is_stated(marked);
-    let Part::Whole(entries) = read_entries(stated) else {
-        return Turn::Malformed;
+    let Part::Whole(entries) = read_entries(input, stated)? else {
+        return Ok(Turn::Malformed);
     };
-    let Part::Whole(number) = read_number(1) else {
-        return Turn::Malformed;
+    let Part::Whole(number) = read_number(input, 1)? else {
+        return Ok(Turn::Malformed);
     };
-    let Part::Whole(result_end) = read_part(bytes, second_end) else {
-        return Turn::Malformed;
+    let Part::Whole(result_end) = read_part(input, bytes, second_end)? else {
+        return Ok(Turn::Malformed);
     };
-    let Part::Whole(positions_end) = read_positions(stated, bytes, result_end) else {
-        return Turn::Malformed;
+    let Part::Whole(positions_end) = read_positions(input, stated, bytes, result_end)? else {
+        return Ok(Turn::Malformed);
     };
     let c = Case {
         call: call_of(marked),
@@ -91,55 +99,61 @@ fn behind_work(
         stated,
         number: number as u64,
     };
-    Turn::Compared(compare(bytes, c))
+    Ok(Turn::Compared(compare(bytes, c)))
 }
 
 /// Reads what is behind the two bits of a message that ends at `message_end`, and runs the case.
-fn behind_bits(message_end: usize, bytes: &mut [u8]) -> Turn {
-    let Part::Whole(room) = read_number(2) else {
-        return Turn::Malformed;
+fn behind_bits<R: Read>(input: &mut R, message_end: usize, bytes: &mut [u8]) -> io::Result<Turn> {
+    let Part::Whole(room) = read_number(input, 2)? else {
+        return Ok(Turn::Malformed);
     };
-    let Part::Whole(number) = read_number(1) else {
-        return Turn::Malformed;
+    let Part::Whole(number) = read_number(input, 1)? else {
+        return Ok(Turn::Malformed);
     };
-    let Part::Whole(result_end) = read_part(bytes, message_end) else {
-        return Turn::Malformed;
+    let Part::Whole(result_end) = read_part(input, bytes, message_end)? else {
+        return Ok(Turn::Malformed);
     };
-    Turn::Compared(compare_message(bytes, message_end, result_end, room, number as u64))
+    Ok(Turn::Compared(compare_message(bytes, message_end, result_end, room, number as u64)))
 }
 
 /// Reads what is behind the arrays, and runs the case. The query ends at `query_end`, the arrays at the other two places.
 /// Those of a message are empty, and it has no work area.
-fn behind_arrays(query_end: usize, first_end: usize, second_end: usize, bytes: &mut [u8]) -> Turn {
-    let Part::Whole(marked) = read_number(3) else {
-        return Turn::Malformed;
+fn behind_arrays<R: Read>(
+    input: &mut R,
+    query_end: usize,
+    first_end: usize,
+    second_end: usize,
+    bytes: &mut [u8],
+) -> io::Result<Turn> {
+    let Part::Whole(marked) = read_number(input, 3)? else {
+        return Ok(Turn::Malformed);
     };
     if marked < MESSAGE {
-        return behind_work(marked, query_end, first_end, second_end, bytes);
+        return behind_work(input, marked, query_end, first_end, second_end, bytes);
     }
     if marked == MESSAGE && second_end == query_end {
-        return behind_bits(query_end, bytes);
+        return behind_bits(input, query_end, bytes);
     }
-    Turn::Malformed
+    Ok(Turn::Malformed)
 }
 
 /// Reads what is behind a query that ends at `query_end`, and runs the case.
-fn behind_query(query_end: usize, bytes: &mut [u8]) -> Turn {
-    let Part::Whole(first_end) = read_part(bytes, query_end) else {
-        return Turn::Malformed;
+fn behind_query<R: Read>(input: &mut R, query_end: usize, bytes: &mut [u8]) -> io::Result<Turn> {
+    let Part::Whole(first_end) = read_part(input, bytes, query_end)? else {
+        return Ok(Turn::Malformed);
     };
-    let Part::Whole(second_end) = read_part(bytes, first_end) else {
-        return Turn::Malformed;
+    let Part::Whole(second_end) = read_part(input, bytes, first_end)? else {
+        return Ok(Turn::Malformed);
     };
-    behind_arrays(query_end, first_end, second_end, bytes)
+    behind_arrays(input, query_end, first_end, second_end, bytes)
 }
 
 /// Reads a record, runs its case and compares it.
-pub fn next_case() -> Turn {
+pub fn next_case<R: Read>(input: &mut R) -> io::Result<Turn> {
     let mut bytes = [0u8; PARTS];
-    match read_part(&mut bytes, 0) {
-        Part::Whole(q) => behind_query(q, &mut bytes),
-        Part::Missing => Turn::Ended,
-        Part::Cut => Turn::Malformed,
+    match read_part(input, &mut bytes, 0)? {
+        Part::Whole(q) => behind_query(input, q, &mut bytes),
+        Part::Missing => Ok(Turn::Ended),
+        Part::Cut => Ok(Turn::Malformed),
     }
 }

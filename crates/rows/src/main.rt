@@ -7,20 +7,25 @@ mod count;
 mod row;
 
 use crate::count::count;
+use reading::full::read_full;
+use std::io;
+use std::io::Write;
 
 /// How long the text may be.
 const ROOM: usize = 229376;
 
 /// Reports a text that may go on behind what was read of it.
-fn warn(length: usize) {
+fn warn<W: Write>(out: &mut W, length: usize) -> io::Result<()> {
     if length == ROOM {
-        io::write_all(1, b"the text is too long\n");
+        return writeln!(out, "the text is too long");
     }
+    Ok(())
 }
 
-fn main() {
+fn main(rt: HostRuntime) -> io::Result<()> {
     let mut text = [0u8; ROOM];
-    let n = io::read_full(0, &mut text);
-    warn(n);
-    count(&text[..n]);
+    let n = read_full(&mut rt.reader(), &mut text)?;
+    let mut out = io::writer(&rt);
+    warn(&mut out, n)?;
+    count(&mut out, &text[..n])
 }

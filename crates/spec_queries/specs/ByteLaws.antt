@@ -1,5 +1,5 @@
 -- The byte form of a query that the rules allow holds bytes only: so an area can hold it.
-use Rattle.std.specs.Prelude.{List, [], ◌∷◌, map, Bool, true, false, ◌&&◌, ℕ, ◌≤◌, ◌<◌, T}
+use Rattle.std.specs.Prelude.{List, [], ◌∷◌, map, Bool, true, false, ℕ, ◌<◌, T}
 use Rattle.std.proofs.Common.{arith}
 use Rattle.spec_trees.specs.Lists.{All, all}
 use Rattle.spec_trees.specs.Limits.{aggregates_max, grouping_max}

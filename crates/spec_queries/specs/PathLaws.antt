@@ -1,5 +1,5 @@
 -- An allowed path is short, and each of its steps is a label. Nothing else of what makes a path allowed is used above.
-use Rattle.std.specs.Prelude.{List, [], ◌∷◌, ◌&&◌, ℕ, zero, suc, ◌≤◌, ◌<◌, length, get_or, T, leb}
+use Rattle.std.specs.Prelude.{[], ◌∷◌, ℕ, zero, suc, ◌≤◌, ◌<◌, length, get_or, T, leb}
 use Rattle.std.proofs.Common.{arith, leb→le}
 use Rattle.spec_trees.specs.Lists.{all}
 use Rattle.spec_trees.specs.Limits.{path_max}

@@ -2,7 +2,7 @@
 use Rattle.std.specs.Prelude.{◌≡◌, refl, ℕ}
 use Rattle.std.proofs.Common.{ap}
 use Rattle.spec_trees.specs.Options.{maybe}
-use Rattle.spec_trees.specs.Tree.{void, boolean, integer, text, Tree, node, Trees, Labels, bare, label, bare_void, find, put}
+use Rattle.spec_trees.specs.Tree.{Tree, node, Trees, Labels, bare, label, bare_void, find, put}
 use Rattle.spec_trees.specs.Within.{Ok, OkL}
 use Rattle.spec_trees.specs.OptionLaws.{ltb_yes}
 use Rattle.spec_stages.specs.Merge.{merge_root, merge, merge_l}

@@ -1,5 +1,5 @@
 -- A line is read as what its bytes are, and as nothing else.
-use Rattle.std.specs.Prelude.{◌≡◌, refl, List, [], ◌∷◌, ◌++◌, Bool, true, false, cond, ◌&&◌, ℕ, ◌+◌, ◌≤◌, ◌<◌, length, eqb, leb}
+use Rattle.std.specs.Prelude.{◌≡◌, refl, List, [], ◌∷◌, ◌++◌, Bool, true, false, cond, ◌&&◌, ℕ, ◌≤◌, ◌<◌, length, eqb, leb}
 use Rattle.std.proofs.Common.{sym, ap, subst, ◌∙◌, append_assoc, arith, length-append, eqb-true, leb-true}
 use Rattle.std.proofs.Math.Option.{none, some, map}
 use Rattle.spec_trees.specs.Options.{◌>>=◌, only}

@@ -1,5 +1,5 @@
 -- What a value becomes is a bare tree within the limits, of at most 86 bytes; and a number has at most eight digits.
-use Rattle.std.specs.Prelude.{◌≡◌, refl, List, [], ◌∷◌, true, ◌&&◌, not, ℕ, zero, suc, ◌+◌, ◌-◌, ◌*◌, ◌^◌, ◌≤◌, ◌<◌, ℤ, pos, neg_ℤ, length, eqb, leb}
+use Rattle.std.specs.Prelude.{◌≡◌, refl, List, [], ◌∷◌, true, ◌&&◌, not, ℕ, zero, suc, ◌+◌, ◌*◌, ◌^◌, ◌≤◌, ◌<◌, ℤ, pos, neg_ℤ, length, eqb, leb}
 use Rattle.std.proofs.Common.{subst, arith, leb-true}
 use Rattle.std.proofs.Math.Option.{Option, none, some, map}
 use Rattle.std.specs.Int.Signed.{mag}

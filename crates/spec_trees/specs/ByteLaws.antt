@@ -1,11 +1,11 @@
 -- The byte form of what the format allows holds bytes only: so an area can hold it.
-use Rattle.std.specs.Prelude.{List, [], ◌∷◌, ◌++◌, Bool, true, false, ℕ, zero, suc, ◌/◌, ◌≤◌, ◌<◌, length, T, leb}
+use Rattle.std.specs.Prelude.{List, [], ◌∷◌, ◌++◌, true, false, ℕ, zero, suc, ◌/◌, ◌≤◌, ◌<◌, length, T, leb}
 use Rattle.std.proofs.Common.{arith, length-append, leb→le}
 use Rattle.spec_trees.specs.Lists.{All}
 use Rattle.spec_trees.specs.Limits.{label_max}
 use Rattle.spec_trees.specs.Tree.{Root, void, boolean, integer, text, Tree, node, Trees, ε, ◌▹◌, Labels, bare, label, trees, is_label}
 use Rattle.spec_trees.specs.Bytes.{Field, two_limit, field_bytes, bytes, low, big, pattern, root_f, label_tag, label_heads, label_of, label_f, tree_f, tree_fs, label_fs, array_f, array_bytes}
-use Rattle.spec_trees.specs.Within.{AllBytes, OkR, Ok, OkA, OkL, Allowed, AllowedA, Within}
+use Rattle.spec_trees.specs.Within.{AllBytes, OkR, Ok, OkA, OkL, AllowedA, Within}
 use Rattle.spec_trees.specs.OptionLaws.{T_and}
 use Rattle.spec_trees.specs.ListLaws.{All-append, All-reverse}
 use Rattle.spec_trees.specs.SizeLaws.{length_array}

@@ -1,5 +1,4 @@
-//! The C interface alone: each slice is a pointer and a length, and an answer is one number.
-//! A maker links `libtquery.a`; the calls stand in `include/tquery.h`.
+//! The calls of `include/tquery.h` as functions of Rattle: an answer is one number. `tquery_c` exports them to C.
 
 #![tactic(auto)]
 

@@ -8,11 +8,14 @@ mod split;
 mod text;
 
 use crate::respond::{READ, respond};
+use reading::full::read_full;
+use std::io;
+use std::io::Write;
 
-fn main() {
+fn main(rt: HostRuntime) -> io::Result<()> {
     let mut input = [0u8; READ];
-    let n = io::read_full(0, &mut input);
+    let n = read_full(&mut rt.reader(), &mut input)?;
     let mut text = [0u8; 32800];
     let end = respond(&input[..n], &mut text);
-    io::write_all(1, &text[..end]);
+    io::writer(&rt).write_all(&text[..end])
 }

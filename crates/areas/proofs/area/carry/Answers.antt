@@ -1,5 +1,5 @@
 -- The proof of areas::area::carry, by answers to its goals: the first i bytes of the source are pasted.
-use Rattle.std.proofs.Common.{arith, rules, ◌≡◌, refl, ap, ◌∙◌, ◌-◌, ◌≤◌, length, take, drop, length-set}
+use Rattle.std.proofs.Common.{arith, ◌≡◌, refl, ap, ◌∙◌, take, drop, length-set}
 use lib.Seq.{paste, paste-zero}
 use Rattle.areas.specs.AreaLaws.{carry_more}
 use Rattle.areas.proofs.area.carry.Goals as goal

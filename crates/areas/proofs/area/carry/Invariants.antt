@@ -1,6 +1,5 @@
-use Rattle.std.proofs.Common.{arith, rules, ◌≡◌, refl, ap, ◌∙◌, ◌-◌, ◌≤◌, length, take, drop, length-set}
-use lib.Seq.{paste, paste-zero}
-use Rattle.areas.specs.AreaLaws.{carry_more}
+use Rattle.std.proofs.Common.{◌≡◌, ◌-◌, ◌≤◌, length, take, drop}
+use lib.Seq.{paste}
 use Rattle.areas.proofs.area.carry.Given as goal
 
 abbrev pub invariant-loop-i : goal.invariant-loop-i

@@ -1,5 +1,5 @@
 -- The proof of areas::area::clear, by answers to its goals: the first i bytes are zero.
-use Rattle.std.proofs.Common.{arith, rules, ◌≡◌, refl, ap, ◌∙◌, ◌++◌, ◌-◌, ◌≤◌, length, drop, set, replicate, length-set}
+use Rattle.std.proofs.Common.{arith, refl, ap, ◌∙◌, set, length-set}
 use borrow.Author.Fill.{fill_more}
 use Rattle.areas.specs.AreaLaws.{cleared}
 use Rattle.areas.proofs.area.clear.Goals as goal

@@ -1,5 +1,5 @@
 -- The proof of areas::area::copy, by answers to its goals.
-use Rattle.std.proofs.Common.{arith, inl, ◌-◌, take, drop, rules}
+use Rattle.std.proofs.Common.{arith, inl, ◌-◌, take, drop}
 use Rattle.areas.specs.AreaLaws.{no_room, length_source, pasted}
 use Rattle.areas.proofs.area.copy.Goals as goal
 

@@ -1,6 +1,6 @@
 -- The proof of areas::area::copy_down, by answers to its goals: the bytes from the i-th on are copied.
-use Rattle.std.proofs.Common.{rules, ◌≡◌, refl, ◌-◌, ◌≤◌, arith, length, length-set}
-use Rattle.areas.specs.AreaLaws.{Backwards, back_begin, back_more, back_end}
+use Rattle.std.proofs.Common.{refl, ◌-◌, arith, length-set}
+use Rattle.areas.specs.AreaLaws.{back_begin, back_more, back_end}
 use Rattle.areas.proofs.area.copy_down.Goals as goal
 
 pub loop-i-init : goal.loop-i-init

@@ -1,5 +1,5 @@
-use Rattle.std.proofs.Common.{rules, ◌≡◌, refl, ◌-◌, ◌≤◌, arith, length, length-set}
-use Rattle.areas.specs.AreaLaws.{Backwards, back_begin, back_more, back_end}
+use Rattle.std.proofs.Common.{◌≡◌, ◌≤◌, length}
+use Rattle.areas.specs.AreaLaws.{Backwards}
 use Rattle.areas.proofs.area.copy_down.Given as goal
 
 abbrev pub invariant-loop-i : goal.invariant-loop-i

@@ -1,5 +1,5 @@
 -- The proof of areas::area::copy_in, by answers to its goals: the first i bytes of the source are pasted.
-use Rattle.std.proofs.Common.{arith, rules, ◌≡◌, refl, ap, ◌∙◌, ◌+◌, ◌-◌, ◌≤◌, length, get_or, set, length-set}
+use Rattle.std.proofs.Common.{arith, ◌≡◌, refl, ap, ◌∙◌, ◌+◌, length, get_or, set, length-set}
 use lib.Seq.{paste, paste-zero}
 use Rattle.areas.specs.AreaLaws.{no_room, paste_more, pasted}
 use Rattle.areas.proofs.area.copy_in.Goals as goal

@@ -1,6 +1,5 @@
-use Rattle.std.proofs.Common.{arith, rules, ◌≡◌, refl, ap, ◌∙◌, ◌+◌, ◌-◌, ◌≤◌, length, get_or, set, length-set}
-use lib.Seq.{paste, paste-zero}
-use Rattle.areas.specs.AreaLaws.{no_room, paste_more, pasted}
+use Rattle.std.proofs.Common.{◌≡◌, ◌-◌, ◌≤◌, length}
+use lib.Seq.{paste}
 use Rattle.areas.proofs.area.copy_in.Given as goal
 
 abbrev pub invariant-loop-i : goal.invariant-loop-i

@@ -1,5 +1,5 @@
 -- The proof of areas::area::emit, by answers to its goals: what copy_in did in the lent tail, said of the whole.
-use Rattle.std.proofs.Common.{arith, rules}
+use Rattle.std.proofs.Common.{arith}
 use Rattle.areas.specs.declared.area.Out.TheVariants.{At, TooLarge}
 use Rattle.areas.specs.AreaLaws.{wrote_tail}
 use Rattle.areas.proofs.area.emit.Goals as goal

@@ -1,5 +1,5 @@
 -- The proof of areas::area::field_end, by answers to its goals.
-use Rattle.std.proofs.Common.{ap, ◌∙◌, ◌+◌, rules, arith}
+use Rattle.std.proofs.Common.{ap, ◌∙◌, ◌+◌}
 use Rattle.areas.specs.NumberLaws.{two_behind}
 use Rattle.areas.proofs.area.field_end.Goals as goal
 

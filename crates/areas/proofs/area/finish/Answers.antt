@@ -1,5 +1,4 @@
 -- The proof of areas::area::finish, by answers to its goals.
-use Rattle.std.proofs.Common.{rules, arith}
 use Rattle.areas.specs.AreaLaws.{finish_at, finish_fail}
 use Rattle.areas.proofs.area.finish.Goals as goal
 

@@ -1,5 +1,5 @@
 -- The proof of areas::area::move_down, by answers to its goals.
-use Rattle.std.proofs.Common.{arith, inr, ◌-◌, length, take, drop, rules}
+use Rattle.std.proofs.Common.{arith, inr, ◌-◌, length, take, drop}
 use Rattle.areas.specs.AreaLaws.{length_source, pasted}
 use Rattle.areas.proofs.area.move_down.Goals as goal
 

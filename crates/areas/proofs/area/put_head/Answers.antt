@@ -1,5 +1,5 @@
 -- The proof of areas::area::put_head, by answers to its goals.
-use Rattle.std.proofs.Common.{arith, ◌+◌, ◌-◌, rules}
+use Rattle.std.proofs.Common.{arith, ◌+◌, ◌-◌}
 use Rattle.areas.specs.NumberLaws.{head_stored}
 use Rattle.areas.proofs.area.put_head.Goals as goal
 

@@ -1,5 +1,5 @@
 -- The proof of areas::number::put_two, by answers to its goals.
-use Rattle.std.proofs.Common.{arith, length-set, rules}
+use Rattle.std.proofs.Common.{arith, length-set}
 use Rattle.areas.specs.NumberLaws.{stored_two}
 use Rattle.areas.proofs.number.put_two.Goals as goal
 

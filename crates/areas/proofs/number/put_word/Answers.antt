@@ -1,5 +1,5 @@
 -- The proof of areas::number::put_word, by answers to its goals.
-use Rattle.std.proofs.Common.{arith, length-set, rules}
+use Rattle.std.proofs.Common.{arith, length-set}
 use Rattle.spec_trees.specs.Bytes.{big, low}
 use Rattle.areas.specs.NumberLaws.{stored_word}
 use Rattle.areas.proofs.number.put_word.Goals as goal

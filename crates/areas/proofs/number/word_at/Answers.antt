@@ -1,5 +1,4 @@
 -- The proof of areas::number::word_at, by answers to its goals: byte by byte.
-use Rattle.std.proofs.Common.{rules, arith}
 use Rattle.areas.specs.Number.{word_at}
 use Rattle.areas.proofs.number.word_at.Goals as goal
 

@@ -1,6 +1,5 @@
 -- The proof of compare::compare::compare, by answers to its goals: from i on all is the same.
-use Rattle.std.proofs.Common.{arith, rules, ap, ◌-◌, get_or}
-use Rattle.compare.specs.Compare.{steps_for, SameFrom}
+use Rattle.std.proofs.Common.{arith, ap, ◌-◌, get_or}
 use Rattle.compare.specs.CompareLaws.{none_compared, byte_compared, told_apart, lengths_apart}
 use Rattle.compare.proofs.compare.compare.Goals as goal
 

@@ -1,6 +1,4 @@
-use Rattle.std.proofs.Common.{arith, rules, ap, ◌-◌, get_or}
 use Rattle.compare.specs.Compare.{steps_for, SameFrom}
-use Rattle.compare.specs.CompareLaws.{none_compared, byte_compared, told_apart, lengths_apart}
 use Rattle.compare.proofs.compare.compare.Given as goal
 
 abbrev pub invariant-loop-i : goal.invariant-loop-i

@@ -1,7 +1,7 @@
 -- The proof of compare::words::compare_words, by answers to its goals: from i on all is the same, and i is a multiple of 8.
-use Rattle.std.proofs.Common.{arith, rules, ◌≡◌, ap, sym, ◌∙◌, ◌-◌, ◌%◌, ◌<◌}
+use Rattle.std.proofs.Common.{arith, ap, sym, ◌∙◌, ◌-◌, ◌<◌}
 use Rattle.spec_trees.specs.ListLaws.{All-of}
-use Rattle.compare.specs.Compare.{low_at, steps_for, SameFrom}
+use Rattle.compare.specs.Compare.{low_at}
 use Rattle.compare.specs.CompareLaws.{word_compared, all_compared, told_apart}
 use Rattle.compare.proofs.words.compare_words.Goals as goal
 

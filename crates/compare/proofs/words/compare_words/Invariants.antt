@@ -1,7 +1,5 @@
-use Rattle.std.proofs.Common.{arith, rules, ◌≡◌, ap, sym, ◌∙◌, ◌-◌, ◌%◌, ◌<◌}
-use Rattle.spec_trees.specs.ListLaws.{All-of}
-use Rattle.compare.specs.Compare.{low_at, steps_for, SameFrom}
-use Rattle.compare.specs.CompareLaws.{word_compared, all_compared, told_apart}
+use Rattle.std.proofs.Common.{◌≡◌, ◌%◌}
+use Rattle.compare.specs.Compare.{steps_for, SameFrom}
 use Rattle.compare.proofs.words.compare_words.Given as goal
 
 abbrev pub invariant-loop-i : goal.invariant-loop-i

@@ -1,5 +1,5 @@
 -- The proof of compare::words::half, by answers to its goals: byte by byte.
-use Rattle.std.proofs.Common.{arith, rules}
+use Rattle.std.proofs.Common.{arith}
 use Rattle.compare.specs.WordLaws.{low_four}
 use Rattle.compare.proofs.words.half.Goals as goal
 

@@ -1,5 +1,5 @@
 -- The proof of compare::words::word, by answers to its goals: two halves.
-use Rattle.std.proofs.Common.{ap₂, ◌∙◌, ◌+◌, ◌*◌, rules, arith}
+use Rattle.std.proofs.Common.{ap₂, ◌∙◌, ◌+◌, ◌*◌}
 use Rattle.compare.specs.WordLaws.{low_eight}
 use Rattle.compare.proofs.words.word.Goals as goal
 

@@ -1,0 +1,5 @@
+//! Reading into a buffer of a fixed size, which the programs do.
+
+#![tactic(auto)]
+
+pub mod full;
