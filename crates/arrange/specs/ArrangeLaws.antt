@@ -20,10 +20,10 @@ use Rattle.queries.specs.Places.{array_trees}
 use Rattle.paths.specs.ComparedLaws.{is_none}
 use Rattle.spec_stages.specs.Group.{Class, upto, grouped}
 use Rattle.spec_stages.specs.Classes.{scan}
-use Rattle.spec_stages.specs.ClassesLaws.{grouped_scan}
+use Rattle.spec_stages.proofs.ClassesLaws.{grouped_scan}
 use Rattle.spec_stages.specs.OnceLaws.{gather_upto}
 use Rattle.spec_stages.specs.Flat.{members, flat}
-use Rattle.spec_stages.specs.GroupedLaws.{flat_size}
+use Rattle.spec_stages.proofs.GroupedLaws.{flat_size}
 use Rattle.spec_stages.specs.Positions.{Borne, unmarked, origin}
 use Rattle.keys.specs.Keys.{FewPairs}
 use Rattle.map.specs.Map.{trees_max}

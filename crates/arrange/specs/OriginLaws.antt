@@ -9,7 +9,7 @@ use Rattle.queries.specs.Places.{array_trees}
 use Rattle.queries.specs.TreesLaws.{length_cons, length_none}
 use Rattle.spec_stages.specs.Classes.{unlike}
 use Rattle.spec_stages.specs.Positions.{Borne, unmarked, origin}
-use Rattle.spec_stages.specs.FirstMemberLaws.{origin_begins}
+use Rattle.spec_stages.proofs.FirstMemberLaws.{origin_begins}
 use Rattle.map.specs.Map.{position_at}
 use Rattle.positions.specs.Bearing.{Bears}
 

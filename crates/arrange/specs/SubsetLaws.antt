@@ -20,7 +20,7 @@ use Rattle.queries.specs.TreesLaws.{ArrayParts, array_parts, array_none, six, le
 use Rattle.spec_stages.specs.Group.{key, alike, sum, Class}
 use Rattle.spec_stages.specs.Classes.{unlike, begins, scan}
 use Rattle.spec_stages.specs.Flat.{members, flat}
-use Rattle.spec_stages.specs.AlikeLaws.{alike_equivalence}
+use Rattle.spec_stages.proofs.AlikeLaws.{alike_equivalence}
 use Rattle.spec_stages.specs.Positions.{unmarked, origin}
 use Rattle.map.specs.Map.{trees_max, position_at}
 use Rattle.arrange.specs.declared.arrange.Filled.{Filled}

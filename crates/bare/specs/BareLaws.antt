@@ -5,7 +5,7 @@ use Rattle.areas.specs.declared.area.Out.{Out}
 use Rattle.areas.specs.declared.area.Out.TheVariants.{At, TooLarge}
 use Rattle.spec_trees.specs.Tree.{Root, node, bare}
 use Rattle.spec_trees.specs.Bytes.{field_bytes, big, root_f, tree_f, tree_bytes}
-use Rattle.spec_trees.specs.FieldLaws.{bytes_one}
+use Rattle.spec_trees.proofs.FieldLaws.{bytes_one}
 use Rattle.spec_trees.specs.NumberLaws.{length_big}
 use Rattle.areas.specs.Area.{Wrote, Finishable, Finished, head_bytes}
 use Rattle.areas.specs.AreaLaws.{no_room, wrote_wider, length_field, finish_at, finishable}

@@ -16,7 +16,7 @@ use Rattle.areas.specs.Area.{Is, span, Fitted, Wrote}
 use Rattle.areas.specs.AreaLaws.{take_less, is_keep, told, fitted_keep, fitted_is, wrote_keep, written, wrote_beyond, moved_fitted}
 use Rattle.format.specs.Stand.{trees_bytes, Holds}
 use Rattle.spec_stages.specs.Merge.{merge, build}
-use Rattle.spec_stages.specs.KeepLaws.{merge_ok}
+use Rattle.spec_stages.proofs.KeepLaws.{merge_ok}
 use Rattle.merge.specs.MergeBytes.{MergeReady, TreesMerged}
 use Rattle.build.specs.Build.{DepthSaid, Standing, Addable, PartAdded, Added}
 

@@ -25,7 +25,7 @@ use Rattle.queries.specs.Places.{path_bytes, OkAt}
 use Rattle.queries.specs.Steps.{step_count}
 use Rattle.spec_stages.specs.Project.{placed}
 use Rattle.spec_stages.specs.Merge.{merge, build}
-use Rattle.spec_stages.specs.KeepLaws.{merge_ok, fits_allowed}
+use Rattle.spec_stages.proofs.KeepLaws.{merge_ok, fits_allowed}
 use Rattle.build.specs.Build.{Standing, Addable, Added}
 use Rattle.build.specs.BuildLaws.{added_next, added_large, standing_keep, standing_written}
 use Rattle.data.specs.declared.value.Value.{Value}

@@ -6,7 +6,7 @@ use Rattle.spec_queries.specs.Bytes.{query_bytes}
 use Rattle.spec_run.specs.declared.answer.Answer.{Answer}
 use Rattle.spec_run.specs.Run.{call, outcome_of, plain_run, plain_positions}
 use Rattle.spec_run.specs.Answer.{numbered, lengthened, Answered}
-use Rattle.spec_run.specs.Conditions.{run_alone}
+use Rattle.spec_run.proofs.Conditions.{run_alone}
 use Rattle.certificate.specs.Alone.{AloneGives}
 
 pub alone_gives : {q i j w r p : List ℕ} {a : Answer} {left work noted : List ℕ} → Answered (call q i j w r p) (numbered a) (lengthened a) left work noted

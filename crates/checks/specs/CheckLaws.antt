@@ -16,7 +16,7 @@ use Rattle.spec_run.specs.declared.answer.Refusal.{Refusal}
 use Rattle.spec_run.specs.declared.answer.Refusal.TheVariants.{WorkShort, PositionsShort, QueryLong, QueryMalformed, InputLong, InputMalformed, JoinedLong, JoinedMalformed}
 use Rattle.spec_run.specs.Refusal.{keeps_result}
 use Rattle.spec_run.specs.Run.{Call, Verdict, refused, reading, final, verdict_of, verdict, check_number}
-use Rattle.spec_run.specs.RunLaws.{Reads}
+use Rattle.spec_run.proofs.RunLaws.{Reads}
 use Rattle.checks.specs.declared.check.CallCheck.{CallCheck}
 use Rattle.checks.specs.declared.check.CallCheck.TheVariants.{Passed, Refused}
 use Rattle.checks.specs.Check.{decided, checked_as, next, work_check, entries_check, areas_check, prepared_check, arrays_check, call_check, Early}

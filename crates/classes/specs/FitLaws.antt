@@ -21,7 +21,7 @@ use Rattle.paths.specs.Walk.{Walk}
 use Rattle.spec_stages.specs.Totals.{total, fits_signed}
 use Rattle.spec_stages.specs.Group.{Class, total_fits, totals_fit}
 use Rattle.spec_stages.specs.Flat.{members, flat}
-use Rattle.spec_stages.specs.KeepLaws.{allowed_ok}
+use Rattle.spec_stages.proofs.KeepLaws.{allowed_ok}
 use Rattle.keys.specs.KeyLaws.{pair_source}
 use Rattle.arrange.specs.Arrange.{arranged, Arranged}
 use Rattle.totals.specs.declared.exact.Total.{Total}

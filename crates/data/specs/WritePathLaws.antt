@@ -26,7 +26,7 @@ use Rattle.queries.specs.Steps.{step_count}
 use Rattle.queries.specs.StepLaws.{steps_are}
 use Rattle.data.specs.declared.value.Value.{Value}
 use Rattle.spec_stages.specs.Paths.{Given, join, over, apply}
-use Rattle.spec_stages.specs.PathLaws.{over_itself}
+use Rattle.spec_stages.proofs.PathLaws.{over_itself}
 use Rattle.spec_stages.specs.Data.{reduced_int, reduced_root, reduced_tree}
 use Rattle.data.specs.Integer.{Reduces}
 use Rattle.paths.specs.Walk.{given, Tells, TellsOver, TellsJoined, Under}

@@ -10,7 +10,7 @@ use Rattle.spec_trees.specs.Tree.{Tree}
 use Rattle.spec_trees.specs.Size.{array_size}
 use Rattle.spec_trees.specs.Bytes.{array_bytes}
 use Rattle.spec_trees.specs.Within.{AllBytes}
-use Rattle.spec_trees.specs.ArrayLaws.{array_only, read_array_lem}
+use Rattle.spec_trees.proofs.ArrayLaws.{array_only, read_array_lem}
 use Rattle.spec_queries.specs.Query.{Stage}
 use Rattle.spec_queries.specs.QueryLaws.{query_only, read_query_lem}
 use Rattle.spec_stages.specs.Stages.{too_long, overflow, State, going, large, halted, stages}
@@ -25,7 +25,7 @@ use Rattle.spec_run.specs.declared.answer.Answer.TheVariants.{Refused}
 use Rattle.checks.specs.declared.check.CallCheck.TheVariants as check_is
 use Rattle.spec_run.specs.Refusal.{keeps_work}
 use Rattle.spec_run.specs.Run.{Call, Verdict, gives, refused, refusal_at, final, verdict, number_in, length_in, result_after, zeros, work_after, positions_after, outcome_of, plain_run, plain_positions}
-use Rattle.spec_run.specs.RunLaws.{reads_verdict}
+use Rattle.spec_run.proofs.RunLaws.{reads_verdict}
 use Rattle.spec_run.specs.Answer.{numbered, lengthened, Answered, AnswersAs}
 use Rattle.spec_run.specs.AnswerLaws.{AnsweredBy, by_run}
 use Rattle.checks.specs.Check.{call_check, Early}

@@ -4,7 +4,7 @@ use Rattle.std.proofs.Common.{sym}
 use mathlib.Core.List.{List, [], ◌∷◌, ◌++◌}
 use Rattle.spec_trees.specs.Limits.{work_min}
 use Rattle.spec_trees.specs.Within.{AllBytes}
-use Rattle.spec_trees.specs.ArrayLaws.{array_only, read_array_lem}
+use Rattle.spec_trees.proofs.ArrayLaws.{array_only, read_array_lem}
 use Rattle.spec_queries.specs.Again.{regrouped}
 use Rattle.spec_stages.specs.Stages.{going, stages}
 use Rattle.spec_stages.specs.Positions.{carried}
@@ -17,7 +17,7 @@ use Rattle.spec_run.specs.Refusal.{keeps_work}
 use Rattle.spec_run.specs.declared.answer.Answer.{Answer}
 use Rattle.spec_run.specs.declared.answer.Answer.TheVariants.{Refused}
 use Rattle.spec_run.specs.Regroup.{RegroupCall, regroup_verdict, plain_regroup}
-use Rattle.spec_run.specs.RegroupLaws.{reads_regroup}
+use Rattle.spec_run.proofs.RegroupLaws.{reads_regroup}
 use Rattle.spec_run.specs.Answer.{numbered, lengthened, Regrouped}
 use Rattle.spec_run.specs.AnswerLaws.{by_regroup}
 use Rattle.checks.specs.declared.check.RegroupCheck.{RegroupCheck}

@@ -25,7 +25,7 @@ use Rattle.spec_run.specs.Refusal.{keeps_result}
 use Rattle.spec_run.specs.declared.answer.Answer.{Answer}
 use Rattle.spec_run.specs.declared.answer.Answer.TheVariants.{Accepted, Refused}
 use Rattle.spec_run.specs.Run.{Verdict, gives, refused, refusal_at, final, number_in, length_in, zeros, positions_after}
-use Rattle.spec_run.specs.RunLaws.{refusal_number, accepts_gives, final_out}
+use Rattle.spec_run.proofs.RunLaws.{refusal_number, accepts_gives, final_out}
 use Rattle.spec_run.specs.Answer.{numbered, lengthened}
 use Rattle.finish.specs.Lines.{ComesTo, LinesReady, Lines}
 use Rattle.finish.specs.FinishLaws.{bytes_size, held_length}

@@ -22,12 +22,12 @@ use Rattle.queries.specs.TreesLaws.{ArrayParts, array_parts, array_none}
 use Rattle.queries.specs.declared.stage.StageAt.{StageAt}
 use Rattle.spec_stages.specs.Stages.{is_group, going, stages}
 use Rattle.spec_stages.specs.Join.{beside}
-use Rattle.spec_stages.specs.JoinLaws.{stages_join}
+use Rattle.spec_stages.proofs.JoinLaws.{stages_join}
 use Rattle.spec_stages.specs.Stretch.{before}
-use Rattle.spec_stages.specs.StretchLaws.{before_free, before_none, before_group}
+use Rattle.spec_stages.proofs.StretchLaws.{before_free, before_none, before_group}
 use Rattle.spec_stages.specs.Positions.{Borne, marked, numbered, carried}
-use Rattle.spec_stages.specs.PositionLaws.{numbered_trees, carried_marked}
-use Rattle.spec_stages.specs.LocalLaws.{carried_append}
+use Rattle.spec_stages.proofs.PositionLaws.{numbered_trees, carried_marked}
+use Rattle.spec_stages.proofs.LocalLaws.{carried_append}
 use Rattle.map.specs.Map.{trees_max, lent_part, collected_at}
 use Rattle.positions.specs.Bearing.{Standing, Numbers}
 use Rattle.stream.specs.declared.collector.Collector.{Collector}

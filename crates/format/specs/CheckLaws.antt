@@ -29,7 +29,7 @@ use Rattle.format.specs.Head.{low_two, head_at, span_at}
 use Rattle.format.specs.Check.{root_ok, tree_ok, array_ok, label_ok, trees_ok, labels_ok, input_ok, check_of, place, rest_ok, Onward, Inward, Stepped, BareAt}
 use Rattle.spec_trees.specs.Bytes.{label_tag, two_limit}
 use Rattle.spec_trees.specs.OptionLaws.{only_some, map_some}
-use Rattle.spec_trees.specs.ReaderLaws.{tagged_some}
+use Rattle.spec_trees.proofs.ReaderLaws.{tagged_some}
 use Rattle.format.specs.HeadLaws.{some_map, head_found, head_short, head_field, span_nothing, inside_next, inside_bad, inside_nothing, inside_one, inside_end, inside_none, span_none}
 
 -- ---- roots

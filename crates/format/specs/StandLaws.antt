@@ -4,7 +4,7 @@ use Rattle.std.specs.Prelude.{◌≡◌, refl, List, ◌∷◌, ◌++◌, ℕ, �
 use Rattle.std.proofs.Common.{sym, ap, subst, ◌∙◌, arith, length-append}
 use Rattle.spec_trees.specs.Tree.{Tree, node, Trees, ε, ◌▹◌, Labels, bare, label, root, labels}
 use Rattle.spec_trees.specs.Bytes.{Field, field_bytes, bytes, root_f, tree_f, tree_fs, label_f, label_fs, tree_bytes, label_tag, label_heads, label_of}
-use Rattle.spec_trees.specs.FieldLaws.{bytes_one}
+use Rattle.spec_trees.proofs.FieldLaws.{bytes_one}
 use Rattle.areas.specs.Area.{Is, field_end}
 use Rattle.areas.specs.AreaLaws.{is_left, is_right, is_head, is_tag, is_content, is_field_end, length_field}
 use Rattle.format.specs.Labels.{label_at, trees_at}

@@ -22,7 +22,7 @@ use Rattle.spec_queries.specs.Query.{Pair}
 use Rattle.spec_queries.specs.Bytes.{pair_f}
 use Rattle.queries.specs.PartLaws.{list_parts, list_none, ok_list_first, ok_list_rest}
 use Rattle.spec_stages.specs.Merge.{merge, build}
-use Rattle.spec_stages.specs.KeepLaws.{merge_ok}
+use Rattle.spec_stages.proofs.KeepLaws.{merge_ok}
 use Rattle.spec_stages.specs.Group.{Class}
 use Rattle.build.specs.BuildLaws.{added_next, added_large}
 use Rattle.build.specs.Made.{Made, AddedAt}

@@ -21,7 +21,7 @@ use Rattle.spec_stages.specs.Paths.{Given, over, apply}
 use Rattle.spec_stages.specs.Project.{placed}
 use Rattle.spec_stages.specs.Totals.{total, fits_signed}
 use Rattle.spec_stages.specs.Group.{aggregate, total_fits, sourced, Class}
-use Rattle.spec_stages.specs.KeepLaws.{OkF, labelled, placed_ok, apply_ok, over_ok, total_ok, allowed_ok}
+use Rattle.spec_stages.proofs.KeepLaws.{OkF, labelled, placed_ok, apply_ok, over_ok, total_ok, allowed_ok}
 use Rattle.paths.specs.Walk.{Walk, Tells, TellsOver}
 use Rattle.paths.specs.WalkLaws.{walk_at}
 use Rattle.keys.specs.Keys.{SourcedIs}

@@ -29,13 +29,13 @@ use Rattle.spec_stages.specs.FitLaws.{ClassFits}
 use Rattle.spec_stages.specs.Flat.{members, flat}
 use Rattle.spec_stages.specs.Stages.{going, large, after, stages}
 use Rattle.spec_stages.specs.Join.{beside}
-use Rattle.spec_stages.specs.JoinLaws.{each_join}
-use Rattle.spec_stages.specs.KeepLaws.{merge_ok, aggregate_ok, apply_ok, labelled, placed_ok, allowed_ok, fits_allowed}
+use Rattle.spec_stages.proofs.JoinLaws.{each_join}
+use Rattle.spec_stages.proofs.KeepLaws.{merge_ok, aggregate_ok, apply_ok, labelled, placed_ok, allowed_ok, fits_allowed}
 use Rattle.spec_stages.specs.Positions.{Borne, marked, sole, carried}
-use Rattle.spec_stages.specs.LocalLaws.{carried_append, carried_sole}
+use Rattle.spec_stages.proofs.LocalLaws.{carried_append, carried_sole}
 use Rattle.spec_stages.specs.Stretch.{before}
-use Rattle.spec_stages.specs.StretchLaws.{before_free}
-use Rattle.spec_stages.specs.StageLaws.{build_fits, void_fits}
+use Rattle.spec_stages.proofs.StretchLaws.{before_free}
+use Rattle.spec_stages.proofs.StageLaws.{build_fits, void_fits}
 use Rattle.build.specs.Made.{Made}
 use Rattle.group.specs.Class.{ClassReady, MakesClass}
 use Rattle.stream.specs.declared.collector.Collector.{Collector}

@@ -17,7 +17,7 @@ use Rattle.areas.specs.Number.{two_at, two_bytes}
 use Rattle.spec_queries.specs.Query.{Pair}
 use Rattle.spec_stages.specs.Group.{key, alike, sum}
 use Rattle.spec_stages.specs.Classes.{unlike, begins, scan}
-use Rattle.spec_stages.specs.AlikeLaws.{alike_equivalence, sum_below}
+use Rattle.spec_stages.proofs.AlikeLaws.{alike_equivalence, sum_below}
 use Rattle.keys.specs.Keys.{FewPairs}
 use Rattle.map.specs.Map.{trees_max}
 use Rattle.queries.specs.TreesLaws.{six}

@@ -11,7 +11,7 @@ use Rattle.spec_queries.specs.Query.{Pair}
 use Rattle.queries.specs.TreesLaws.{six}
 use Rattle.queries.specs.Places.{pairs_bytes, HoldsAt}
 use Rattle.spec_stages.specs.Group.{alike}
-use Rattle.spec_stages.specs.AlikeLaws.{alike_equivalence}
+use Rattle.spec_stages.proofs.AlikeLaws.{alike_equivalence}
 use Rattle.keys.specs.Keys.{AlikeIs}
 use Rattle.keys.specs.KeyHashLaws.{hash_alike}
 use Rattle.map.specs.Map.{trees_max}

@@ -11,7 +11,7 @@ use Rattle.queries.specs.Places.{ReadsPair}
 use Rattle.queries.specs.PartLaws.{list_parts, list_none}
 use Rattle.queries.specs.declared.item.PairAt.{PairAt}
 use Rattle.spec_stages.specs.Group.{key, alike}
-use Rattle.spec_stages.specs.AlikeLaws.{same_key_lem}
+use Rattle.spec_stages.proofs.AlikeLaws.{same_key_lem}
 use Rattle.paths.specs.Walk.{Tells}
 use Rattle.paths.specs.Hash.{given_hash}
 use Rattle.keys.specs.KeyLaws.{pair_source}

@@ -21,7 +21,7 @@ use Rattle.queries.specs.Places.{path_bytes, route_bytes, array_trees}
 use Rattle.queries.specs.declared.stage.LookupAt.{LookupAt}
 use Rattle.queries.specs.TreesLaws.{array_parts, array_none}
 use Rattle.queries.specs.Steps.{step_count}
-use Rattle.spec_stages.specs.KeepLaws.{partners_ok}
+use Rattle.spec_stages.proofs.KeepLaws.{partners_ok}
 use Rattle.spec_stages.specs.Project.{place_at, placed}
 use Rattle.spec_stages.specs.Lookup.{matches, partners, looked}
 use Rattle.paths.specs.Walk.{given}

@@ -14,7 +14,7 @@ use Rattle.format.specs.Stand.{ArrayIs, FoundIs}
 use Rattle.queries.specs.Steps.{step_count, step_at}
 use Rattle.queries.specs.StepLaws.{steps_are}
 use Rattle.spec_stages.specs.Paths.{over, reached, apply}
-use Rattle.spec_stages.specs.PathLaws.{given_itself}
+use Rattle.spec_stages.proofs.PathLaws.{given_itself}
 use Rattle.paths.specs.Walk.{Tells, Under}
 use Rattle.paths.specs.WalkLaws.{step_apply, tells_end}
 

@@ -17,9 +17,9 @@ use Rattle.spec_trees.specs.Decode.{tree_r}
 use Rattle.spec_trees.specs.Within.{OkA, OkL, Allowed, AllowedA}
 use Rattle.spec_trees.specs.OptionLaws.{some_equal, cond_cases}
 use Rattle.spec_trees.specs.ListLaws.{All-append}
-use Rattle.spec_trees.specs.FieldLaws.{fields_bytes}
-use Rattle.spec_trees.specs.ReaderLaws.{all_back}
-use Rattle.spec_trees.specs.ArrayLaws.{tree_law}
+use Rattle.spec_trees.proofs.FieldLaws.{fields_bytes}
+use Rattle.spec_trees.proofs.ReaderLaws.{all_back}
+use Rattle.spec_trees.proofs.ArrayLaws.{tree_law}
 use Rattle.spec_trees.specs.Lists.{same_bytes}
 use Rattle.spec_trees.specs.ListLaws.{equal_same, same_equal}
 use Rattle.format.specs.Stand.{trees_bytes}

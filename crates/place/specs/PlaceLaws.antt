@@ -11,7 +11,7 @@ use Rattle.spec_trees.specs.Bytes.{field_bytes, bytes, root_f, tree_f, tree_fs, 
 use Rattle.areas.specs.Area.{IsAt, Wrote, head_bytes}
 use Rattle.areas.specs.declared.span.Span.{Span}
 use Rattle.areas.specs.AreaLaws.{failed, length_field}
-use Rattle.spec_trees.specs.FieldLaws.{bytes_one}
+use Rattle.spec_trees.proofs.FieldLaws.{bytes_one}
 use Rattle.format.specs.Stand.{entry_of, entry_bytes, Behind, Headed}
 use Rattle.format.specs.StandLaws.{heads_most, length_entry, labels_first}
 use Rattle.format.specs.HeadedLaws.{headed_none, headed_seq, headed_bytes, headed_field}

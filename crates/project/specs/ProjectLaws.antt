@@ -21,7 +21,7 @@ use Rattle.queries.specs.PartLaws.{list_parts, list_none, list_places, holds_of}
 use Rattle.queries.specs.Steps.{step_count}
 use Rattle.spec_stages.specs.Data.{value}
 use Rattle.spec_stages.specs.Merge.{merge, build}
-use Rattle.spec_stages.specs.KeepLaws.{merge_ok, item_ok}
+use Rattle.spec_stages.proofs.KeepLaws.{merge_ok, item_ok}
 use Rattle.spec_stages.specs.Project.{item, projected}
 use Rattle.build.specs.BuildLaws.{standing_void}
 use Rattle.data.specs.declared.value.Value.{Value}

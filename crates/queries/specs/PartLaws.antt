@@ -7,7 +7,7 @@ use mathlib.Core.List.{List, [], ◌∷◌, map}
 use Rattle.spec_trees.specs.Bytes.{Field, field_bytes, bytes}
 use Rattle.areas.specs.Area.{Is, field_end, span}
 use Rattle.areas.specs.AreaLaws.{is_left, is_right, is_content, is_field_end, length_field}
-use Rattle.spec_trees.specs.FieldLaws.{bytes_one, length_bytes}
+use Rattle.spec_trees.proofs.FieldLaws.{bytes_one, length_bytes}
 use Rattle.format.specs.Stand.{Holds}
 use Rattle.spec_trees.specs.Lists.{All}
 use Rattle.spec_queries.specs.Query.{Data, Datas, ended, more}

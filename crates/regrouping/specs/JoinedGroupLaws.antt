@@ -15,7 +15,7 @@ use Rattle.spec_queries.specs.Again.{again, regrouped}
 use Rattle.spec_queries.specs.RegroupingLaws.{ok_again, group_short}
 use Rattle.spec_queries.specs.AgainLaws.{regroups_parts}
 use Rattle.spec_stages.specs.Stages.{going, stages}
-use Rattle.spec_stages.specs.LeaveLaws.{group_step, group_overflow, group_long}
+use Rattle.spec_stages.proofs.LeaveLaws.{group_step, group_overflow, group_long}
 use Rattle.spec_stages.specs.Stretch.{before}
 use Rattle.areas.specs.Area.{Is, Wrote, span}
 use Rattle.areas.specs.AreaLaws.{written, is_keep}
@@ -27,7 +27,7 @@ use Rattle.queries.specs.declared.stage.GroupAt.{GroupAt}
 use Rattle.paths.specs.ComparedLaws.{is_none, trees_append}
 use Rattle.spec_stages.specs.Group.{grouped, totals_fit}
 use Rattle.spec_stages.specs.Positions.{unmarked, numbered, carry, carried}
-use Rattle.spec_stages.specs.PositionLaws.{numbered_trees, carried_within}
+use Rattle.spec_stages.proofs.PositionLaws.{numbered_trees, carried_within}
 use Rattle.map.specs.Map.{trees_max, lent_part, collected_at}
 use Rattle.positions.specs.Bearing.{Standing, Numbers}
 use Rattle.positions.specs.BearingLaws.{few_trees}

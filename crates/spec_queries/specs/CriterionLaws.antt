@@ -9,8 +9,8 @@ use Rattle.spec_trees.specs.Bytes.{Field}
 use Rattle.spec_trees.specs.Readers.{Reader, chosen, among, tagged, emptied}
 use Rattle.spec_trees.specs.Within.{AllBytes}
 use Rattle.spec_trees.specs.OptionLaws.{T_true, leb_yes, only_some}
-use Rattle.spec_trees.specs.ReaderLaws.{Law, field_eq, OneOf, among_some, tagged_some, emptied_some, one_back, one_form, two_back, two_form}
-use Rattle.spec_trees.specs.ArrayLaws.{array_r_law}
+use Rattle.spec_trees.proofs.ReaderLaws.{Law, field_eq, OneOf, among_some, tagged_some, emptied_some, one_back, one_form, two_back, two_form}
+use Rattle.spec_trees.proofs.ArrayLaws.{array_r_law}
 use Rattle.spec_queries.specs.Query.{Criterion, always, exists, equal, same, negated, both, either, is_path}
 use Rattle.spec_queries.specs.Bytes.{path_f, route_f, criterion_f}
 use Rattle.spec_queries.specs.Decode.{path_r, path_r⁺, route_r, criterion_r, criterion_table}

@@ -5,7 +5,7 @@ use Rattle.std.proofs.lemmas.List.{map-append}
 use Rattle.std.proofs.Math.Option.{some}
 use Rattle.spec_trees.specs.Bytes.{field_bytes, bytes}
 use Rattle.spec_trees.specs.ListLaws.{All-left, All-right}
-use Rattle.spec_trees.specs.FieldLaws.{bytes_append}
+use Rattle.spec_trees.proofs.FieldLaws.{bytes_append}
 use Rattle.spec_queries.specs.Query.{Stage}
 use Rattle.spec_queries.specs.Bytes.{stage_f, query_f, query_bytes}
 use Rattle.spec_queries.specs.Decode.{decode_query}

@@ -10,9 +10,9 @@ use Rattle.spec_trees.specs.Bytes.{Field, bytes, big}
 use Rattle.spec_trees.specs.Readers.{Reader, chosen, among, tagged, big_value}
 use Rattle.spec_trees.specs.Within.{AllBytes}
 use Rattle.spec_trees.specs.OptionLaws.{T_true, T_and, only_some}
-use Rattle.spec_trees.specs.ReaderLaws.{Law, field_eq, OneOf, among_some, tagged_some, one_back, one_form, two_back, two_form, three_back, three_form, many_back, many_form}
+use Rattle.spec_trees.proofs.ReaderLaws.{Law, field_eq, OneOf, among_some, tagged_some, one_back, one_form, two_back, two_form, three_back, three_form, many_back, many_form}
 use Rattle.spec_trees.specs.NumberLaws.{length_big, big_back, big_form}
-use Rattle.spec_trees.specs.ArrayLaws.{array_r_law}
+use Rattle.spec_trees.proofs.ArrayLaws.{array_r_law}
 use Rattle.spec_queries.specs.Query.{Criterion, Data, literal, path, listed, test, choice, reduced, Datas, ended, more, datas, data_list, is_divisor}
 use Rattle.spec_queries.specs.Bytes.{criterion_f, divisor_f, data_f, data_fs}
 use Rattle.spec_queries.specs.Decode.{criterion_r, divisor_r, data_r, data_table}

@@ -10,8 +10,8 @@ use Rattle.spec_trees.specs.Bytes.{Field, bytes}
 use Rattle.spec_trees.specs.Readers.{Reader, inside, one, two, many, chosen, among, tagged, accepted, malformed, overlong}
 use Rattle.spec_trees.specs.Within.{AllBytes}
 use Rattle.spec_trees.specs.OptionLaws.{leb_yes, eqb_same, only_some}
-use Rattle.spec_trees.specs.FieldLaws.{bytes_one}
-use Rattle.spec_trees.specs.ReaderLaws.{Law, field_eq, OneOf, among_some, tagged_some, one_back, one_form, two_back, two_form, three_back, three_form, many_back, many_form, tested_only, tested_overlong, malformed_form}
+use Rattle.spec_trees.proofs.FieldLaws.{bytes_one}
+use Rattle.spec_trees.proofs.ReaderLaws.{Law, field_eq, OneOf, among_some, tagged_some, one_back, one_form, two_back, two_form, three_back, three_form, many_back, many_form, tested_only, tested_overlong, malformed_form}
 use Rattle.spec_queries.specs.Query.{Path, Route, Item, keep, place, Pair, pair_with, pair_of, Stage, match, unwind, project, group, lookup}
 use Rattle.spec_queries.specs.Bytes.{path_f, route_f, item_f, pair_tag, pair_f, pairs_f, stage_f, query_f, query_bytes}
 use Rattle.spec_queries.specs.Decode.{path_r⁺, route_r, item_table, item_r, pair_r, aggregate_table, aggregate_r, pairs_r, stage_table, stage_r, query_r, decode_query, read_query}

@@ -6,7 +6,7 @@ use Rattle.spec_trees.specs.Limits.{aggregates_max, grouping_max}
 use Rattle.spec_trees.specs.Bytes.{field_bytes, bytes}
 use Rattle.spec_trees.specs.Lists.{all, All}
 use Rattle.spec_trees.specs.OptionLaws.{both_true}
-use Rattle.spec_trees.specs.FieldLaws.{bytes_append, length_bytes}
+use Rattle.spec_trees.proofs.FieldLaws.{bytes_append, length_bytes}
 use Rattle.spec_queries.specs.Query.{Path, Pair}
 use Rattle.spec_queries.specs.Bytes.{path_f, pair_f, pairs_f, stage_f, query_f, query_bytes}
 use Rattle.spec_queries.specs.Rules.{OkPair, OkPairs, Plain, OkQ}

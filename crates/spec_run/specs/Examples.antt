@@ -6,7 +6,7 @@ use Rattle.spec_trees.specs.Bytes.{array_bytes}
 use Rattle.spec_trees.specs.Examples.{int, #, ⟨◌⟩, ◌⇒◌⨾◌}
 use Rattle.spec_queries.specs.Query.{always, negated, pair_of, total_pair, match, unwind, group, lookup}
 use Rattle.spec_queries.specs.Bytes.{query_bytes}
-use Rattle.spec_tracer.specs.Examples.{becomes}
+use Rattle.spec_tracer.proofs.Examples.{becomes}
 use Rattle.spec_stages.specs.PositionExamples.{stems}
 use Rattle.spec_run.specs.Refusal.{keeps_result, keeps_work}
 use Rattle.spec_run.specs.Run.{reading, asking, refusal_at, final, verdict_of, verdict, zeros, work_after, result_after, positions_after, number_in, length_in, outcome_of, plain_run, check_number, checked_query, checked_array}

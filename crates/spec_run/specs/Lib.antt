@@ -10,12 +10,4 @@ pub mod Cut
 pub mod Program
 -- Laws.
 pub mod AnswerLaws
-pub mod RunLaws
-pub mod CutLaws
-pub mod RegroupLaws
-pub mod DayLaws
-pub mod LinesLaws
-pub mod TotalLaws
-pub mod TracerLaws
-pub mod Conditions
 pub mod Examples

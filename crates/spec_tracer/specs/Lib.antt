@@ -8,6 +8,3 @@ pub mod Traced
 pub mod FrontLaws
 pub mod LineLaws
 pub mod MessageLaws
-pub mod ValueLaws
-pub mod TracedLaws
-pub mod Examples

@@ -12,11 +12,8 @@ pub mod Within
 pub mod OptionLaws
 pub mod ListLaws
 pub mod FilterLaws
-pub mod FieldLaws
-pub mod ReaderLaws
 pub mod NumberLaws
 pub mod SizeLaws
 pub mod FindLaws
-pub mod ArrayLaws
 pub mod ByteLaws
 pub mod Examples

@@ -17,13 +17,13 @@ use Rattle.queries.specs.Places.{array_trees}
 use Rattle.paths.specs.ComparedLaws.{trees_append}
 use Rattle.spec_stages.specs.Stages.{State, going, large, halted, stages}
 use Rattle.spec_stages.specs.Join.{beside, GroupFree}
-use Rattle.spec_stages.specs.JoinLaws.{stages_join}
+use Rattle.spec_stages.proofs.JoinLaws.{stages_join}
 use Rattle.stream.specs.declared.collector.Collector.{Collector}
 use Rattle.stream.specs.declared.collector.Collector.TheVariants.{Len, Over, Large}
 use Rattle.map.specs.Map.{trees_max, end_part, collector_at}
 use Rattle.stream.specs.Collector.{is_large, ends, Collects, Open, Fed, Feeds, CollectReady, Collected}
 use Rattle.stream.specs.Tails.{tail, lent}
-use Rattle.spec_stages.specs.StretchLaws.{stages_none, stages_large}
+use Rattle.spec_stages.proofs.StretchLaws.{stages_none, stages_large}
 use Rattle.stream.specs.TailLaws.{ends_tail, ends_lent}
 
 -- ---- the collector's part decides

@@ -30,13 +30,13 @@ use Rattle.lookup.specs.Lookup.{LookupReady, Looks}
 use Rattle.stream.specs.declared.collector.Collector.{Collector}
 use Rattle.stream.specs.declared.collector.Collector.TheVariants.{Large}
 use Rattle.spec_stages.specs.Stretch.{before}
-use Rattle.spec_stages.specs.StretchLaws.{before_next, before_group, before_none, before_free}
+use Rattle.spec_stages.proofs.StretchLaws.{before_next, before_group, before_none, before_free}
 use Rattle.map.specs.Map.{rooms, building, tail_min, stage_min}
 use Rattle.stream.specs.Collector.{ends, Collects, Fed, Feeds, CollectReady, Collected}
 use Rattle.stream.specs.CollectorLaws.{feeds_none, feeds_large, feeds_lent, feeds_move}
 use Rattle.stream.specs.Tails.{tail, lent}
 use Rattle.stream.specs.TailLaws.{tail_length, tail_is, ends_beyond}
-use Rattle.spec_stages.specs.StageLaws.{step_match, step_project, project_none, step_lookup, lookup_none, step_allowed}
+use Rattle.spec_stages.proofs.StageLaws.{step_match, step_project, project_none, step_lookup, lookup_none, step_allowed}
 use Rattle.stream.specs.Feed.{part_at, Planned, Front, Feeding, FeedReady, FeedPost, OkItems, PartReady, PartPost, JoinReady, JoinPost}
 
 -- ---- the tree at the front

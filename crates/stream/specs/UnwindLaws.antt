@@ -31,17 +31,17 @@ use Rattle.spec_stages.specs.Stages.{going, step, stages}
 use Rattle.place.specs.Writers.{Along, WriterReady}
 use Rattle.unwind.specs.Outcomes.{sound_bytes, Counts, Has, PutsOutcome, ElementReady, PutsElement}
 use Rattle.unwind.specs.OutcomeLaws.{entry_of_lem, entry_places, entry_kept, outcome_fits}
-use Rattle.spec_stages.specs.UnwoundLaws.{unwound_allowed, unwound_none, unwound_one, left_next, left_none, elements_next}
+use Rattle.spec_stages.proofs.UnwoundLaws.{unwound_allowed, unwound_none, unwound_one, left_next, left_none, elements_next}
 use Rattle.stream.specs.declared.collector.Collector.{Collector}
 use Rattle.stream.specs.declared.collector.Collector.TheVariants.{Large}
 use Rattle.spec_stages.specs.Stretch.{before}
-use Rattle.spec_stages.specs.StretchLaws.{before_free}
+use Rattle.spec_stages.proofs.StretchLaws.{before_free}
 use Rattle.map.specs.Map.{rooms, stage_min}
 use Rattle.stream.specs.Collector.{is_large, ends, Feeds}
 use Rattle.stream.specs.CollectorLaws.{feeds_none, feeds_lent, feeds_more, feeds_stop, feeds_open}
 use Rattle.stream.specs.Tails.{tail, lent}
 use Rattle.stream.specs.TailLaws.{tail_length, tail_is, lent_length, lent_front, ends_beyond}
-use Rattle.spec_stages.specs.StageLaws.{step_unwind, unwound_alone}
+use Rattle.spec_stages.proofs.StageLaws.{step_unwind, unwound_alone}
 use Rattle.stream.specs.Feed.{part_at, Planned, Front, FeedReady, FeedPost, PartReady, PartPost}
 use Rattle.stream.specs.FeedLaws.{front_fits}
 use Rattle.stream.specs.Unwinding.{LeftRule, Unwinding, Parted, LeftFrom, LeftUnder, UnwoundEntry}

@@ -16,10 +16,10 @@ use Rattle.queries.specs.Places.{array_trees}
 use Rattle.paths.specs.ComparedLaws.{is_none, trees_append}
 use Rattle.spec_stages.specs.Stages.{State, going, large, halted, stages}
 use Rattle.spec_stages.specs.Join.{beside, GroupFree}
-use Rattle.spec_stages.specs.StretchLaws.{stages_none}
+use Rattle.spec_stages.proofs.StretchLaws.{stages_none}
 use Rattle.spec_stages.specs.Positions.{Borne, unmarked, marked, carried}
-use Rattle.spec_stages.specs.PositionLaws.{marked_trees}
-use Rattle.spec_stages.specs.LocalLaws.{carried_none}
+use Rattle.spec_stages.proofs.PositionLaws.{marked_trees}
+use Rattle.spec_stages.proofs.LocalLaws.{carried_none}
 use Rattle.map.specs.Map.{trees_max, lent_part, collector_at, collected_at, position_at}
 use Rattle.positions.specs.Bearing.{Bears, StandFrom, Standing, Marks}
 use Rattle.positions.specs.BearingLaws.{bears_keep, bears_append, bears_beyond}

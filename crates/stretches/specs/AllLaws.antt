@@ -15,12 +15,12 @@ use Rattle.queries.specs.TreesLaws.{array_reads}
 use Rattle.queries.specs.Places.{ReadsQuery}
 use Rattle.areas.specs.declared.span.Span.{Span}
 use Rattle.spec_stages.specs.Stages.{State, going, large, halted, stages}
-use Rattle.spec_stages.specs.KeepLaws.{stages_allowed}
+use Rattle.spec_stages.proofs.KeepLaws.{stages_allowed}
 use Rattle.stream.specs.declared.collector.Collector.{Collector}
 use Rattle.spec_stages.specs.Stretch.{before, behind}
-use Rattle.spec_stages.specs.StretchLaws.{before_behind, stretch, before_short}
+use Rattle.spec_stages.proofs.StretchLaws.{before_behind, stretch, before_short}
 use Rattle.spec_stages.specs.Positions.{numbered, carried}
-use Rattle.spec_stages.specs.PositionLaws.{carried_then, carried_within}
+use Rattle.spec_stages.proofs.PositionLaws.{carried_then, carried_within}
 use Rattle.map.specs.MapLaws.{first_fits}
 use Rattle.positions.specs.BearingLaws.{few_trees}
 use Rattle.stream.specs.Feed.{Planned}

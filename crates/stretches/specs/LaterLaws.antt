@@ -18,16 +18,16 @@ use Rattle.spec_stages.specs.Group.{grouped, totals_fit}
 use Rattle.spec_stages.specs.FitLaws.{fit_classes}
 use Rattle.spec_stages.specs.Flat.{flat}
 use Rattle.spec_stages.specs.PermutesLaws.{All-permutes, permutes_back}
-use Rattle.spec_stages.specs.GroupedLaws.{grouped_permutes}
+use Rattle.spec_stages.proofs.GroupedLaws.{grouped_permutes}
 use Rattle.spec_stages.specs.Stages.{too_long, overflow, State, going, large, halted, after, step, stages}
-use Rattle.spec_stages.specs.KeepLaws.{stages_allowed}
+use Rattle.spec_stages.proofs.KeepLaws.{stages_allowed}
 use Rattle.stream.specs.declared.collector.Collector.{Collector}
 use Rattle.stream.specs.declared.collector.Collector.TheVariants.{Len, Over, Large}
 use Rattle.spec_stages.specs.Stretch.{before, behind}
-use Rattle.spec_stages.specs.StretchLaws.{before_behind, before_short, stretch, stages_large, stages_halted, shorter, behind_ok}
-use Rattle.spec_stages.specs.LeaveLaws.{group_step, group_overflow, group_long}
+use Rattle.spec_stages.proofs.StretchLaws.{before_behind, before_short, stretch, stages_large, stages_halted, shorter, behind_ok}
+use Rattle.spec_stages.proofs.LeaveLaws.{group_step, group_overflow, group_long}
 use Rattle.spec_stages.specs.Positions.{Borne, unmarked, origin, carry, carried}
-use Rattle.spec_stages.specs.PositionLaws.{carried_then, carried_bear, carry_group, origin_bear}
+use Rattle.spec_stages.proofs.PositionLaws.{carried_then, carried_bear, carry_group, origin_bear}
 use Rattle.map.specs.Map.{trees_max, collected_at}
 use Rattle.map.specs.MapLaws.{group_fits}
 use Rattle.positions.specs.Bearing.{Position, Bears}

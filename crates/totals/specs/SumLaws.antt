@@ -20,7 +20,7 @@ use Rattle.format.specs.Stand.{root_bytes, Holds}
 use Rattle.format.specs.StandLaws.{tree_parts, trees_parts, trees_none, tree_places}
 use Rattle.spec_stages.specs.Sums.{added}
 use Rattle.spec_stages.specs.Totals.{root_integers, tree_integers, sum_of}
-use Rattle.spec_stages.specs.TotalsLaws.{sum_append}
+use Rattle.spec_stages.proofs.TotalsLaws.{sum_append}
 use Rattle.totals.specs.declared.exact.Total.{Total}
 use Rattle.totals.specs.Exact.{middle, IsTotal, Sound, Adds}
 use Rattle.totals.specs.ExactLaws.{adds_none, adds_seq, adds_sound}

@@ -16,7 +16,7 @@ use Rattle.areas.specs.declared.span.Span.{Span}
 use Rattle.format.specs.Stand.{ArrayIs, FoundIs}
 use Rattle.spec_stages.specs.Paths.{Given, join, over, apply}
 use Rattle.spec_stages.specs.Totals.{tree_integers, given_integers, sum_of, total}
-use Rattle.spec_stages.specs.KeepLaws.{OkF, over_ok, apply_ok}
+use Rattle.spec_stages.proofs.KeepLaws.{OkF, over_ok, apply_ok}
 use Rattle.paths.specs.Walk.{given, Tells, TellsJoined}
 use Rattle.paths.specs.WalkLaws.{given_join, over_given, joined_end, joined_next}
 use Rattle.totals.specs.declared.exact.Total.{Total}

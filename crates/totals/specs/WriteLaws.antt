@@ -6,7 +6,7 @@ use Rattle.std.proofs.Math.Option.{Option, none, some}
 use Rattle.areas.specs.declared.area.Out.{Out}
 use Rattle.spec_trees.specs.Tree.{integer, node, bare, trees}
 use Rattle.spec_trees.specs.Bytes.{pattern, root_f, tree_f, tree_bytes}
-use Rattle.spec_trees.specs.FieldLaws.{bytes_one}
+use Rattle.spec_trees.proofs.FieldLaws.{bytes_one}
 use Rattle.areas.specs.Area.{Wrote, span}
 use Rattle.bare.specs.Bare.{integer_tree}
 use Rattle.bare.specs.BareLaws.{bare_bytes}

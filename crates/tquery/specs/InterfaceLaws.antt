@@ -10,7 +10,7 @@ use Rattle.spec_run.specs.declared.answer.Refusal.{Refusal}
 use Rattle.spec_run.specs.declared.answer.Answer.{Answer}
 use Rattle.spec_run.specs.declared.answer.Answer.TheVariants.{Accepted, Refused}
 use Rattle.spec_run.specs.Run.{Outcome, check_number}
-use Rattle.spec_run.specs.RunLaws.{refusal_number, Short}
+use Rattle.spec_run.proofs.RunLaws.{refusal_number, Short}
 use Rattle.spec_run.specs.Answer.{numbered}
 use Rattle.spec_run.specs.AnswerLaws.{AnsweredBy}
 use Rattle.checks.specs.Check.{checked_as}

@@ -11,7 +11,7 @@ use Rattle.spec_run.specs.declared.answer.Refusal.{Refusal}
 use Rattle.spec_run.specs.Refusal.{number_of}
 use Rattle.spec_run.specs.Answer.{numbered, lengthened, Answered}
 use Rattle.spec_run.specs.Run.{Call, call, plain_run}
-use Rattle.spec_run.specs.RunLaws.{refusal_number, run_short}
+use Rattle.spec_run.proofs.RunLaws.{refusal_number, run_short}
 use Rattle.spec_run.specs.Program.{hex, refused_text, shown, answered, program, program_max}
 use Rattle.tquery_cli.specs.Text.{Begins}
 use Rattle.tquery_cli.specs.Respond.{ShowReady, ShowsAnswer, RespondReady}

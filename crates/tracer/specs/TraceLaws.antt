@@ -17,13 +17,13 @@ use Rattle.areas.specs.Area.{Wrote}
 use Rattle.areas.specs.AreaLaws.{told}
 use Rattle.spec_tracer.specs.Limits.{message_max}
 use Rattle.spec_tracer.specs.Traced.{message_tree, traced}
-use Rattle.spec_tracer.specs.TracedLaws.{traced_is, traced_not, traced_long, traced_size}
+use Rattle.spec_tracer.proofs.TracedLaws.{traced_is, traced_not, traced_long, traced_size}
 use Rattle.spec_run.specs.declared.answer.Answer.{Answer}
 use Rattle.spec_run.specs.declared.answer.Answer.TheVariants.{Accepted, Refused}
 use Rattle.spec_run.specs.declared.answer.Refusal.TheVariants.{MessageMalformed, ResultLong}
 use Rattle.spec_run.specs.Run.{zeros, length_in, outcome_of}
 use Rattle.spec_run.specs.Tracer.{plain_tracer}
-use Rattle.spec_run.specs.TracerLaws.{tracer_thirteen, tracer_ten, tracer_gives, tracer_fits}
+use Rattle.spec_run.proofs.TracerLaws.{tracer_thirteen, tracer_ten, tracer_gives, tracer_fits}
 use Rattle.spec_run.specs.Answer.{numbered, lengthened, Traced}
 use Rattle.tracer_lines.specs.Places.{Noted, ReadsLines}
 use Rattle.tracer_tree.specs.Array.{ArrayReady, WroteArray}

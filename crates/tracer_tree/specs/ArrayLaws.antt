@@ -2,7 +2,7 @@
 use Rattle.std.specs.Prelude.{◌≡◌, refl, List, [], ◌∷◌, ◌++◌, ℕ, ◌+◌, ◌-◌, ◌≤◌, ◌<◌, length}
 use Rattle.std.proofs.Common.{sym, ap, subst, arith}
 use Rattle.spec_trees.specs.Bytes.{field_bytes, bytes, root_f, tree_f, array_f, array_bytes}
-use Rattle.spec_trees.specs.FieldLaws.{bytes_one}
+use Rattle.spec_trees.proofs.FieldLaws.{bytes_one}
 use Rattle.areas.specs.declared.area.Out.{Out}
 use Rattle.areas.specs.declared.area.Out.TheVariants.{At, TooLarge}
 use Rattle.areas.specs.Area.{Wrote, Finishable, Finished, head_bytes, span}

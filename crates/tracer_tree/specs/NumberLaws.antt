@@ -17,7 +17,7 @@ use Rattle.spec_trees.specs.Bytes.{pattern}
 use Rattle.spec_tracer.specs.Limits.{whole_max}
 use Rattle.spec_tracer.specs.Message.{is_digit, begins, front}
 use Rattle.spec_tracer.specs.Values.{minus, point, digit, decimal, parts, fraction, amount, hundredths}
-use Rattle.spec_tracer.specs.ValueLaws.{digit_most, decimal_most, decimal_least, amount_most}
+use Rattle.spec_tracer.proofs.ValueLaws.{digit_most, decimal_most, decimal_least, amount_most}
 use Rattle.tracer_lines.specs.Piece.{part, piece_end, stands_at}
 use Rattle.tracer_lines.specs.PieceLaws.{here, part_none, part_first, piece_above, piece_inside, piece_length, piece_front, piece_behind, piece_all}
 use Rattle.tracer_tree.specs.declared.number.Amount.{Amount}

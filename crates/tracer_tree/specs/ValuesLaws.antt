@@ -10,7 +10,7 @@ use Rattle.spec_trees.specs.Options.{maybe}
 use Rattle.spec_trees.specs.OptionLaws.{bind_some, map_some, some_equal}
 use Rattle.spec_trees.specs.Tree.{Root, void, integer, text, node, bare}
 use Rattle.spec_trees.specs.Bytes.{big, pattern, bytes, root_f, tree_f, tree_bytes}
-use Rattle.spec_trees.specs.FieldLaws.{bytes_one}
+use Rattle.spec_trees.proofs.FieldLaws.{bytes_one}
 use Rattle.areas.specs.declared.area.Out.{Out}
 use Rattle.areas.specs.declared.area.Out.TheVariants.{At, TooLarge}
 use Rattle.areas.specs.Area.{Wrote, span}

@@ -19,7 +19,7 @@ use Rattle.areas.specs.Area.{Is, span, Fitted, Wrote, field_end, Finished}
 use Rattle.areas.specs.declared.span.Span.{Span}
 use Rattle.format.specs.Stand.{root_bytes, trees_bytes, labels_bytes, entry_of, entry_bytes, Holds, Finds, Behind, Headed}
 use Rattle.areas.specs.AreaLaws.{is_join, is_copied, is_keep, failed, told, wrote_keep, wrote_before, wrote_seq, length_field}
-use Rattle.spec_trees.specs.FieldLaws.{bytes_one}
+use Rattle.spec_trees.proofs.FieldLaws.{bytes_one}
 use Rattle.spec_trees.specs.SizeLaws.{length_tree, trees_list}
 use Rattle.format.specs.StandLaws.{tree_parts, trees_parts, trees_none}
 use Rattle.spec_queries.specs.Query.{Path}
@@ -31,7 +31,7 @@ use Rattle.place.specs.Writers.{Along, WriterReady}
 use Rattle.unwind.specs.Outcomes.{sound_bytes, sounds_bytes, TreeEntry, EntryAt, Counts, CountsEach, RoomFor, NthIs, PutsNth, PutsNthEach, Has, PutsOutcome, Around, Surrounds, ElementReady, PutsElement}
 use Rattle.place.specs.WriterLaws.{rest_of, rest_none}
 use Rattle.spec_trees.specs.FindLaws.{found_ok}
-use Rattle.spec_stages.specs.UnwoundLaws.{labels_ok_lem, length_map, unwound_none, unwound_some, unwound_count, get_d_map, outcome_under}
+use Rattle.spec_stages.proofs.UnwoundLaws.{labels_ok_lem, length_map, unwound_none, unwound_some, unwound_count, get_d_map, outcome_under}
 
 -- ---- counting
 module _ {q : List ℕ} {p : Span} (i : ℕ) {w : List ℕ} {a b : ℕ} where

@@ -1,8 +1,5 @@
 -- The proof of arrange::arrange::arrange, by answers to its goals: the classes of the subsets below k stand at the front.
-use Rattle.std.proofs.Common.{arith, length, ◌≡◌, refl, sym, subst, ◌∙◌, List, ◌-◌, ◌^◌, ◌≤◌, rules}
-use Rattle.spec_queries.specs.Query.{Pair}
-use Rattle.spec_stages.specs.Positions.{Borne, unmarked, origin}
-use Rattle.arrange.specs.Arrange.{arranged, Grows}
+use Rattle.std.proofs.Common.{arith, refl, ◌∙◌, ◌-◌}
 use Rattle.arrange.specs.ArrangeLaws as law
 use Rattle.arrange.proofs.arrange.arrange.Goals as goal
 

@@ -1,4 +1,4 @@
-use Rattle.std.proofs.Common.{arith, length, ◌≡◌, refl, sym, subst, ◌∙◌, List, ◌-◌, ◌^◌, ◌≤◌, rules}
+use Rattle.std.proofs.Common.{length, ◌≡◌, List, ◌-◌, ◌^◌, ◌≤◌}
 use Rattle.spec_queries.specs.Query.{Pair}
 use Rattle.spec_stages.specs.Positions.{Borne, unmarked, origin}
 use Rattle.arrange.specs.Arrange.{arranged, Grows}

@@ -1,4 +1,4 @@
-use Rattle.std.proofs.Common.{arith, length, ◌≡◌, refl, ◌∙◌, ◌-◌, rules}
+use Rattle.std.proofs.Common.{length, ◌≡◌, ◌-◌}
 use Rattle.spec_trees.specs.Limits.{array_max}
 use Rattle.arrange.specs.Arrange.{Following}
 use Rattle.arrange.specs.ClassLaws as law

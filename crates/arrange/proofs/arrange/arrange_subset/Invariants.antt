@@ -1,4 +1,4 @@
-use Rattle.std.proofs.Common.{arith, rules, length, ◌≡◌, refl, sym, ◌∙◌, ◌+◌, ◌-◌}
+use Rattle.std.proofs.Common.{length, ◌≡◌, ◌+◌, ◌-◌}
 use Rattle.key_index.specs.Index.{base}
 use Rattle.arrange.specs.Arrange.{Subset}
 use Rattle.arrange.specs.SubsetLaws as law

@@ -1,5 +1,4 @@
 -- The proof of arrange::arrange::place, by answers to its goals.
-use Rattle.std.proofs.Common.{rules, arith}
 use Rattle.arrange.specs.FrontLaws.{grows_one}
 use Rattle.arrange.proofs.arrange.place.Goals as goal
 

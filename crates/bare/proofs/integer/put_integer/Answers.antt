@@ -1,5 +1,5 @@
 -- The proof of bare::integer::put_integer, by answers to its goals.
-use Rattle.std.proofs.Common.{arith, ◌∙◌, rules}
+use Rattle.std.proofs.Common.{arith, ◌∙◌}
 use Rattle.bare.specs.BareLaws.{integer_large, integer_fits}
 use Rattle.bare.proofs.integer.put_integer.Goals as goal
 

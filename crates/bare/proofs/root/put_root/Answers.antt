@@ -1,5 +1,5 @@
 -- The proof of bare::root::put_root, by answers to its goals.
-use Rattle.std.proofs.Common.{arith, ◌∙◌, rules}
+use Rattle.std.proofs.Common.{arith, ◌∙◌}
 use Rattle.bare.specs.BareLaws.{root_large, root_finishable, tree_finishable, tree_headed}
 use Rattle.bare.proofs.root.put_root.Goals as goal
 

@@ -1,6 +1,5 @@
 -- The proof of build::behind::append_part, by answers to its goals.
-use Rattle.std.proofs.Common.{arith, refl, rules}
-use borrow.Author.Tests.{not-true, not-false}
+use Rattle.std.proofs.Common.{arith, refl}
 use Rattle.spec_trees.specs.Tree.{ε, ◌▹◌}
 use Rattle.format.specs.StandLaws.{tree_places, is_alone}
 use Rattle.build.specs.BehindLaws.{append_places, append_large, append_deep, append_done}

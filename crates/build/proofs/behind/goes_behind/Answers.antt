@@ -1,5 +1,5 @@
 -- The proof of build::behind::goes_behind, by answers to its goals.
-use Rattle.std.proofs.Common.{arith, refl, rules}
+use Rattle.std.proofs.Common.{arith, refl}
 use Rattle.format.specs.StandLaws.{tree_places, holds_labels, labels_places}
 use Rattle.build.specs.BehindLaws.{behind_no, behind_bare, behind_last}
 use Rattle.build.proofs.behind.goes_behind.Goals as goal

@@ -1,9 +1,8 @@
-use Rattle.std.proofs.Common.{arith, refl, ℕ, ◌-◌, rules}
+use Rattle.std.proofs.Common.{ℕ, ◌-◌}
 use Rattle.areas.specs.Area.{span}
 use Rattle.format.specs.Stand.{labels_bytes, Holds}
-use Rattle.format.specs.StandLaws.{labels_places, holds_others}
 use Rattle.build.specs.Behind.{LastIs}
-use Rattle.build.specs.BehindLaws.{LastFrom, last_all, last_end, last_next}
+use Rattle.build.specs.BehindLaws.{LastFrom}
 use Rattle.build.proofs.behind.last_label.Given as goal
 
 abbrev pub invariant-loop-at : goal.invariant-loop-at

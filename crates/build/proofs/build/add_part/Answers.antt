@@ -1,6 +1,5 @@
 -- The proof of build::build::add_part, by answers to its goals: what each test says of the trees that stand there.
-use Rattle.std.proofs.Common.{subst, rules, arith}
-use borrow.Author.Tests.{not-true, not-false}
+use Rattle.std.proofs.Common.{subst}
 use Rattle.build.specs.Build.{DepthSaid}
 use Rattle.build.specs.Behind.{GoesBehind}
 use Rattle.build.specs.BuildLaws.{standing_one, part_deep}

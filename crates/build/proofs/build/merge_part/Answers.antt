@@ -1,6 +1,5 @@
 -- The proof of build::build::merge_part, by answers to its goals: what each test says of the trees that stand there.
-use Rattle.std.proofs.Common.{arith, refl, rules}
-use borrow.Author.Tests.{not-true, not-false}
+use Rattle.std.proofs.Common.{arith, refl}
 use Rattle.build.specs.BuildLaws.{addable_ready, merge_large, merge_one, merge_ends, merge_deep, merge_moved}
 use Rattle.build.proofs.build.merge_part.Goals as goal
 

@@ -1,5 +1,4 @@
 -- The proof of build::part::add_written, by answers to its goals.
-use Rattle.std.proofs.Common.{rules, arith}
 use Rattle.build.specs.MadeLaws.{adding_ready, adds_part, adds_none}
 use Rattle.build.proofs.part.add_written.Goals as goal
 

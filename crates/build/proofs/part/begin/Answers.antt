@@ -1,5 +1,4 @@
 -- The proof of build::part::begin, by answers to its goals.
-use Rattle.std.proofs.Common.{rules, arith}
 use Rattle.build.specs.MadeLaws.{begun}
 use Rattle.build.proofs.part.begin.Goals as goal
 

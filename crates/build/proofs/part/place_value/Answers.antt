@@ -1,5 +1,5 @@
 -- The proof of build::part::place_value, by answers to its goals.
-use Rattle.std.proofs.Common.{arith, rules}
+use Rattle.std.proofs.Common.{arith}
 use Rattle.build.specs.MadeLaws.{placing_behind, places_none, places_at, places_large}
 use Rattle.build.proofs.part.place_value.Goals as goal
 

@@ -1,5 +1,5 @@
 -- `changes_found` is safe and ends: the slice keeps its length, up to which i counts.
-use Rattle.std.proofs.Common.{arith, rules, ◌≡◌, ◌≤◌, ◌-◌, length, length-set}
+use Rattle.std.proofs.Common.{arith, ◌-◌, length-set}
 use Rattle.cases.proofs.comparing.changes_found.Goals as goal
 
 pub shape_of-copy-then-not-told_apart : goal.shape_of-copy-then-not-told_apart

@@ -1,4 +1,4 @@
-use Rattle.std.proofs.Common.{arith, rules, ◌≡◌, ◌≤◌, ◌-◌, length, length-set}
+use Rattle.std.proofs.Common.{◌≡◌, ◌≤◌, ◌-◌, length}
 use Rattle.cases.proofs.comparing.changes_found.Given as goal
 
 abbrev pub invariant-loop-i : goal.invariant-loop-i

@@ -1,5 +1,5 @@
 -- `compare_copy` is safe: the length was tested.
-use Rattle.std.proofs.Common.{sym, length-take-le, rules, arith}
+use Rattle.std.proofs.Common.{sym, length-take-le}
 use Rattle.cases.proofs.comparing.compare_copy.Goals as goal
 
 pub slice_bounds-compare_with-end-2 : goal.slice_bounds-compare_with-end-2

@@ -1,5 +1,5 @@
 -- `entries_are` is safe and ends: i counts up to the length.
-use Rattle.std.proofs.Common.{rules, ◌≤◌, ◌-◌, length, arith}
+use Rattle.std.proofs.Common.{◌≤◌, ◌-◌, length}
 use Rattle.cases.proofs.positions.entries_are.Given as goal
 
 abbrev pub invariant-loop-i : goal.invariant-loop-i

@@ -1,5 +1,5 @@
 -- `compare` is safe: the three lengths were tested.
-use Rattle.std.proofs.Common.{sym, length-take-le, rules, arith}
+use Rattle.std.proofs.Common.{sym, length-take-le}
 use Rattle.cases.proofs.trial.compare.Goals as goal
 
 pub slice_bounds-compare_in-end : goal.slice_bounds-compare_in-end

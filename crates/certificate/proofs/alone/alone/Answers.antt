@@ -1,5 +1,4 @@
 -- The proof of certificate::alone::alone, by answers to its goals.
-use Rattle.std.proofs.Common.{rules, arith}
 use Rattle.certificate.specs.AloneLaws.{alone_gives}
 use Rattle.certificate.proofs.alone.alone.Goals as goal
 

@@ -1,5 +1,5 @@
 -- The proof of certificate::cut::cut, by answers to its goals.
-use Rattle.std.proofs.Common.{sym, ◌<◌, arith, length-take-le, rules}
+use Rattle.std.proofs.Common.{sym, ◌<◌, arith, length-take-le}
 use Rattle.spec_trees.specs.ListLaws.{All-of}
 use Rattle.certificate.specs.CutLaws.{answered_within, makes_runs, cut_same}
 use Rattle.certificate.proofs.cut.cut.Goals as goal

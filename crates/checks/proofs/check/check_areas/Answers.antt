@@ -1,5 +1,5 @@
 -- The proof of checks::check::check_areas, by answers to its goals.
-use Rattle.std.proofs.Common.{arith, rules}
+use Rattle.std.proofs.Common.{arith}
 use Rattle.checks.specs.CheckLaws.{areas_work, areas_short, areas_enough}
 use Rattle.checks.proofs.check.check_areas.Goals as goal
 

@@ -1,5 +1,5 @@
 -- The proof of checks::check::check_arrays, by answers to its goals.
-use Rattle.std.proofs.Common.{◌∙◌, ap, rules, arith}
+use Rattle.std.proofs.Common.{◌∙◌, ap}
 use Rattle.checks.specs.Check.{decided}
 use Rattle.checks.specs.CheckLaws.{arrays_first, arrays_second}
 use Rattle.checks.proofs.check.check_arrays.Goals as goal

@@ -1,5 +1,5 @@
 -- The proof of checks::check::check_call, by answers to its goals.
-use Rattle.std.proofs.Common.{◌∙◌, ap, rules, arith}
+use Rattle.std.proofs.Common.{◌∙◌, ap}
 use Rattle.checks.specs.Check.{prepared_check}
 use Rattle.checks.specs.CheckLaws.{call_prepared, call_arrays}
 use Rattle.checks.proofs.check.check_call.Goals as goal

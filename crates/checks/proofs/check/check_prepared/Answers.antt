@@ -1,5 +1,5 @@
 -- The proof of checks::check::check_prepared, by answers to its goals.
-use Rattle.std.proofs.Common.{◌∙◌, ap, rules, arith}
+use Rattle.std.proofs.Common.{◌∙◌, ap}
 use Rattle.checks.specs.Check.{decided}
 use Rattle.checks.specs.CheckLaws.{prepared_areas, prepared_query}
 use Rattle.checks.proofs.check.check_prepared.Goals as goal

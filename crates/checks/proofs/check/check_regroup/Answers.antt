@@ -1,5 +1,5 @@
 -- The proof of checks::check::check_regroup, by answers to its goals.
-use Rattle.std.proofs.Common.{◌∙◌, ap, ◌<◌, arith, rules}
+use Rattle.std.proofs.Common.{◌∙◌, ap, ◌<◌, arith}
 use Rattle.spec_trees.specs.ListLaws.{All-of}
 use Rattle.checks.specs.Check.{prepared_check}
 use Rattle.checks.specs.RegroupCheckLaws.{prepared_form, regroup_checked, regroup_refused}

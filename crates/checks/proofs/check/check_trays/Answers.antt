@@ -1,5 +1,5 @@
 -- The proof of checks::check::check_trays, by answers to its goals.
-use Rattle.std.proofs.Common.{◌<◌, arith, rules}
+use Rattle.std.proofs.Common.{◌<◌, arith}
 use Rattle.spec_trees.specs.ListLaws.{All-of}
 use Rattle.checks.specs.RegroupCheckLaws.{trays_other, trays_passed, trays_refused}
 use Rattle.checks.proofs.check.check_trays.Goals as goal

@@ -1,5 +1,5 @@
 -- The proof of checks::check::check_work, by answers to its goals.
-use Rattle.std.proofs.Common.{arith, rules}
+use Rattle.std.proofs.Common.{arith}
 use Rattle.checks.specs.CheckLaws.{work_short, work_enough}
 use Rattle.checks.proofs.check.check_work.Goals as goal
 

@@ -1,5 +1,5 @@
 -- The proof of checks::check::decide, by answers to its goals.
-use Rattle.std.proofs.Common.{refl, rules, arith}
+use Rattle.std.proofs.Common.{refl}
 use Rattle.checks.proofs.check.decide.Goals as goal
 
 pub returns-in-Overlong : goal.returns-in-Overlong

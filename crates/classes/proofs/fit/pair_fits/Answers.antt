@@ -1,5 +1,4 @@
 -- The proof of classes::fit::pair_fits, by answers to its goals.
-use Rattle.std.proofs.Common.{rules, arith}
 use Rattle.classes.specs.FitLaws.{source_holds, pair_total, pair_plain}
 use Rattle.classes.proofs.fit.pair_fits.Goals as goal
 

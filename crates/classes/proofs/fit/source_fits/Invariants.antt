@@ -1,7 +1,6 @@
-use Rattle.std.proofs.Common.{arith, rules, refl, ◌-◌}
-use borrow.Author.Tests.{not-true, not-false}
+use Rattle.std.proofs.Common.{◌-◌}
 use Rattle.classes.specs.Read.{reached}
-use Rattle.classes.specs.FitLaws.{FitGoing, fit_begin, fit_end, fit_places, fit_ends, fit_walk, fit_less, fit_stop, fit_again}
+use Rattle.classes.specs.FitLaws.{FitGoing}
 use Rattle.classes.proofs.fit.source_fits.Given as goal
 
 abbrev pub invariant-loop-from : goal.invariant-loop-from

@@ -1,12 +1,8 @@
 -- The proof of classes::fit::totals_fit, by answers to its goals: what is right for the pairs from `at` on is right for
 -- all.
-use Rattle.std.proofs.Common.{arith, refl, Bool, ◌-◌, rules}
-use borrow.Author.Tests.{not-true, not-false}
+use Rattle.std.proofs.Common.{arith, refl, ◌-◌}
 use Rattle.spec_queries.specs.Bytes.{pair_f}
-use Rattle.areas.specs.Area.{span}
-use Rattle.queries.specs.Places.{pairs_bytes, HoldsAt}
 use Rattle.queries.specs.PartLaws.{list_places, list_first, list_rest}
-use Rattle.classes.specs.Fit.{PairsFit}
 use Rattle.classes.specs.FitLaws.{pairs_end, pairs_not, pairs_next}
 use Rattle.classes.proofs.fit.totals_fit.Goals as goal
 

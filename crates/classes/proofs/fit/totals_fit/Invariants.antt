@@ -1,11 +1,7 @@
-use Rattle.std.proofs.Common.{arith, refl, Bool, ◌-◌, rules}
-use borrow.Author.Tests.{not-true, not-false}
-use Rattle.spec_queries.specs.Bytes.{pair_f}
+use Rattle.std.proofs.Common.{Bool, ◌-◌}
 use Rattle.areas.specs.Area.{span}
 use Rattle.queries.specs.Places.{pairs_bytes, HoldsAt}
-use Rattle.queries.specs.PartLaws.{list_places, list_first, list_rest}
 use Rattle.classes.specs.Fit.{PairsFit}
-use Rattle.classes.specs.FitLaws.{pairs_end, pairs_not, pairs_next}
 use Rattle.classes.proofs.fit.totals_fit.Given as goal
 
 abbrev pub invariant-loop-at : goal.invariant-loop-at

@@ -1,7 +1,6 @@
-use Rattle.std.proofs.Common.{refl, sym, ◌∙◌, ◌-◌, arith, rules}
+use Rattle.std.proofs.Common.{◌-◌}
 use Rattle.classes.specs.declared.read.Reached.{Reached}
 use Rattle.classes.specs.Read.{reached, EndReady, EndIs}
-use Rattle.classes.specs.ReadLaws as law
 use Rattle.classes.proofs.read.class_end.Given as goal
 
 abbrev pub invariant-loop-to : goal.invariant-loop-to

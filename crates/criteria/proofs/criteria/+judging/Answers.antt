@@ -1,6 +1,6 @@
 -- The proof of the cycle of criteria::criteria, by answers to its goals: by the reader's answer, what the parts say;
 -- what is left of the nesting falls by one where parts are entered.
-use Rattle.std.proofs.Common.{arith, rules, ◌+◌, ◌*◌, ℕ, ◌<◌}
+use Rattle.std.proofs.Common.{arith}
 use Rattle.queries.specs.PartLaws.{holds_of}
 use Rattle.criteria.specs.MeetsLaws.{left_positive, exists_walk, equal_walk, same_walk, negated_evaluable, both_evaluable, either_evaluable, always_meets, exists_meets, equal_meets, same_meets, negated_meets, both_meets, either_meets, both_first, both_second, either_first, either_second}
 use Rattle.criteria.proofs.criteria.+judging.Goals as goal

@@ -1,13 +1,9 @@
-use Rattle.std.proofs.Common.{arith, rules, ◌≡◌, refl, sym, ◌∙◌, List, false, ℕ, ◌+◌, ◌*◌, ◌-◌, ◌≤◌, length, take, ◌<◌}
-use Rattle.areas.specs.AreaLaws.{take_less}
+use Rattle.std.proofs.Common.{◌≡◌, List, false, ℕ, ◌+◌, ◌*◌, ◌-◌, ◌≤◌, length, take}
 use Rattle.format.specs.Stand.{trees_bytes}
 use Rattle.areas.specs.Area.{span}
-use Rattle.queries.specs.StepLaws.{steps_fewer}
 use Rattle.data.specs.declared.value.Value.{Value}
 use Rattle.paths.specs.Walk.{TellsJoined}
-use Rattle.paths.specs.WalkLaws.{walk_inside, walk_room, walk_places, step_left}
 use Rattle.data.specs.Write.{WalkReady, WroteParts}
-use Rattle.data.specs.WritePathLaws.{kept_none, kept_here, kept_large, kept_answer, walked_leaf, walk_missing, walk_under, walked_piece, over_empty, over_walked, walk_done, walk_stop, walk_next, ready_leaf, ready_under, ready_first, ready_rest}
 use Rattle.data.proofs.data.+walking.Given as goal
 
 abbrev pub decreases-write_over : goal.decreases-write_over

@@ -1,11 +1,8 @@
 -- The proof of the cycle of data::data that writes data, by answers to its goals: nesting left falls, and what is
 -- right for the members from `at` on, behind what was written, is right for all.
-use Rattle.std.proofs.Common.{arith, rules, ◌≡◌, refl, sym, ◌∙◌, List, false, ℕ, ◌+◌, ◌*◌, ◌-◌, length, ◌<◌}
-use Rattle.areas.specs.Area.{span}
-use Rattle.queries.specs.Places.{datas_bytes}
+use Rattle.std.proofs.Common.{arith, refl, sym, ◌∙◌, false, ◌-◌}
 use Rattle.queries.specs.PartLaws.{holds_of}
 use Rattle.data.specs.declared.value.Value.{Value}
-use Rattle.data.specs.Write.{DataReady, Gives, NestedDs, listed_from}
 use Rattle.data.specs.WriteDataLaws.{left_some, literal_places, path_ready, listed_ready, test_ready, choice_judged, choice_first, choice_second, reduced_ready, gives_literal, gives_path, gives_listed, gives_test, gives_first, gives_second, gives_reduced, list_done, list_places, list_first, list_rest, list_stop, list_next}
 use Rattle.data.proofs.data.+writing.Goals as goal
 

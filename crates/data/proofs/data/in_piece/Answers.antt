@@ -1,5 +1,5 @@
 -- The proof of data::data::in_piece, by answers to its goals.
-use Rattle.std.proofs.Common.{arith, ◌≡◌, ℕ, eqb-true, rules}
+use Rattle.std.proofs.Common.{arith, ◌≡◌, ℕ, eqb-true}
 use Rattle.data.proofs.data.in_piece.Goals as goal
 
 pub returns-then-divisor-eq0 : goal.returns-then-divisor-eq0

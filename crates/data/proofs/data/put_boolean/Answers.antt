@@ -1,5 +1,4 @@
 -- The proof of data::data::put_boolean: the constants' bytes are those of the trees.
-use Rattle.std.proofs.Common.{rules, arith}
 use Rattle.data.specs.WriteDataLaws.{put_true, put_false}
 use Rattle.data.proofs.data.put_boolean.Goals as goal
 

@@ -1,5 +1,5 @@
 -- The proof of data::data::write_leaf, by answers to its goals: a root takes as many bytes when it is divided.
-use Rattle.std.proofs.Common.{arith, ◌+◌, rules}
+use Rattle.std.proofs.Common.{arith, ◌+◌}
 use Rattle.data.specs.WritePathLaws.{wrote_kept, kept_same, kept_more, leaf_large, leaf_plain, leaf_room, leaf_other, leaf_integer, leaf_reduced}
 use Rattle.data.proofs.data.write_leaf.Goals as goal
 

@@ -1,5 +1,5 @@
 -- The proof of data::data::write_part, by answers to its goals.
-use Rattle.std.proofs.Common.{arith, refl, rules}
+use Rattle.std.proofs.Common.{arith, refl}
 use Rattle.paths.specs.WalkLaws.{walk_room}
 use Rattle.data.specs.WritePathLaws.{kept_none, found_missing, walked_found}
 use Rattle.data.proofs.data.write_part.Goals as goal

@@ -1,5 +1,4 @@
 -- The proof of data::data::write_path, by answers to its goals.
-use Rattle.std.proofs.Common.{rules, arith}
 use Rattle.data.specs.WriteDataLaws.{path_plain}
 use Rattle.data.proofs.data.write_path.Goals as goal
 

@@ -1,12 +1,9 @@
-use Rattle.std.proofs.Common.{arith, rules, ◌≡◌, refl, sym, ◌∙◌, List, false, ℕ, ◌-◌, length}
+use Rattle.std.proofs.Common.{◌≡◌, List, false, ℕ, ◌-◌, length}
 use Rattle.format.specs.Stand.{trees_bytes}
 use Rattle.areas.specs.Area.{span}
 use Rattle.data.specs.declared.value.Value.{Value}
 use Rattle.paths.specs.Walk.{TellsJoined}
-use Rattle.paths.specs.WalkLaws.{walk_places}
 use Rattle.data.specs.Write.{WalkReady, WroteParts}
-use Rattle.data.specs.WritePathLaws.{over_empty, over_walked, walk_done, walk_stop, walk_next, ready_first, ready_rest}
-use Rattle.data.specs.WriteDataLaws.{over_plain}
 use Rattle.data.proofs.data.write_path_over.Given as goal
 
 abbrev pub invariant-loop-from : goal.invariant-loop-from

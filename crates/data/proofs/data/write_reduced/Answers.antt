@@ -1,5 +1,5 @@
 -- The proof of data::data::write_reduced, by answers to its goals.
-use Rattle.std.proofs.Common.{arith, rules}
+use Rattle.std.proofs.Common.{arith}
 use Rattle.data.specs.WriteDataLaws.{path_reduced}
 use Rattle.data.proofs.data.write_reduced.Goals as goal
 

@@ -1,5 +1,4 @@
 -- The proof of data::data::write_test, by answers to its goals.
-use Rattle.std.proofs.Common.{rules, arith}
 use Rattle.data.specs.WriteDataLaws.{gives_tested}
 use Rattle.data.proofs.data.write_test.Goals as goal
 

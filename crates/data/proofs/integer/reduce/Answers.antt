@@ -1,5 +1,5 @@
 -- The proof of data::integer::reduce, by answers to its goals: the magnitude is divided.
-use Rattle.std.proofs.Common.{arith, refl, ◌+◌, ◌-◌, rules}
+use Rattle.std.proofs.Common.{arith, refl, ◌+◌, ◌-◌}
 use Rattle.data.specs.IntegerLaws.{near_le, reduce_pos, reduce_zero, reduce_neg}
 use Rattle.data.proofs.integer.reduce.Goals as goal
 

@@ -1,5 +1,5 @@
 -- The proof of data::integer::reduce_at, by answers to its goals.
-use Rattle.std.proofs.Common.{arith, rules}
+use Rattle.std.proofs.Common.{arith}
 use Rattle.areas.specs.AreaLaws.{wrote_keep}
 use Rattle.data.specs.IntegerLaws.{reduces}
 use Rattle.data.proofs.integer.reduce_at.Goals as goal

@@ -1,5 +1,5 @@
 -- The proof of data::value::answer_of, by answers to its goals.
-use Rattle.std.proofs.Common.{sym, ap, Bool, rules, arith}
+use Rattle.std.proofs.Common.{sym, ap, Bool}
 use Rattle.data.specs.Value.{answer_of}
 use Rattle.data.proofs.value.answer_of.Goals as goal
 

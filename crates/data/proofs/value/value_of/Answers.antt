@@ -1,5 +1,5 @@
 -- The proof of data::value::value_of, by answers to its goals.
-use Rattle.std.proofs.Common.{sym, ap, rules, arith}
+use Rattle.std.proofs.Common.{sym, ap}
 use Rattle.data.specs.Value.{value_of}
 use Rattle.data.proofs.value.value_of.Goals as goal
 

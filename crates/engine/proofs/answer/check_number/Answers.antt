@@ -1,5 +1,5 @@
 -- The proof of engine::answer::check_number, by answers to its goals.
-use Rattle.std.proofs.Common.{sym, ap, ◌∙◌, rules, arith}
+use Rattle.std.proofs.Common.{sym, ap, ◌∙◌}
 use Rattle.checks.specs.Check.{checked_as}
 use Rattle.engine.proofs.answer.check_number.Goals as goal
 

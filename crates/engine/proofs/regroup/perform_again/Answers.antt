@@ -1,5 +1,4 @@
 -- The proof of engine::regroup::perform_again, by answers to its goals.
-use Rattle.std.proofs.Common.{rules, arith}
 use Rattle.engine.specs.RegroupLaws.{again_finish, again_perform}
 use Rattle.engine.proofs.regroup.perform_again.Goals as goal
 

@@ -1,5 +1,5 @@
 -- The proof of engine::run::perform, by answers to its goals.
-use Rattle.std.proofs.Common.{◌∙◌, rules, arith}
+use Rattle.std.proofs.Common.{◌∙◌}
 use Rattle.engine.specs.PerformLaws.{runs_finish, runs_lines, runs_perform}
 use Rattle.engine.proofs.run.perform.Goals as goal
 

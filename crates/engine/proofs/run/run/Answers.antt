@@ -1,5 +1,5 @@
 -- The proof of engine::run::run, by answers to its goals.
-use Rattle.std.proofs.Common.{sym, ◌∙◌, ◌<◌, arith, length-take-le, rules}
+use Rattle.std.proofs.Common.{sym, ◌∙◌, ◌<◌, arith, length-take-le}
 use Rattle.spec_trees.specs.Limits.{work_min}
 use Rattle.spec_trees.specs.ListLaws.{All-of}
 use Rattle.spec_run.specs.Run.{call}

@@ -1,5 +1,5 @@
 -- The proof of finish::finish::accept, by answers to its goals.
-use Rattle.std.proofs.Common.{refl, sym, arith, take, length-take-le, ◌+◌, rules}
+use Rattle.std.proofs.Common.{refl, sym, arith, take, length-take-le, ◌+◌}
 use Rattle.finish.specs.FinishLaws.{failed_room, held_length, accepted_room, accept_lengths}
 use Rattle.finish.proofs.finish.accept.Goals as goal
 

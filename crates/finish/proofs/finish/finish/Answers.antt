@@ -1,5 +1,5 @@
 -- The proof of finish::finish::finish, by answers to its goals.
-use Rattle.std.proofs.Common.{refl, rules, arith}
+use Rattle.std.proofs.Common.{refl}
 use Rattle.finish.specs.FinishLaws.{held_accept, held_finish, failed_large, failed_halted, failed_full}
 use Rattle.spec_stages.specs.Stages.{too_long, overflow}
 use Rattle.spec_run.specs.Run.{refusal_at}

@@ -1,5 +1,5 @@
 -- The proof of finish::finish::keeps_work, by answers to its goals.
-use Rattle.std.proofs.Common.{rules, arith}
+use Rattle.std.proofs.Common.{rules}
 use Rattle.spec_run.specs.Refusal.{keeps_work}
 use Rattle.finish.proofs.finish.keeps_work.Goals as goal
 

@@ -1,5 +1,5 @@
 -- The proof of finish::finish::refuse, by answers to its goals.
-use Rattle.std.proofs.Common.{refl, sym, ◌∙◌, rules, arith}
+use Rattle.std.proofs.Common.{refl, sym, ◌∙◌}
 use Rattle.finish.proofs.finish.refuse.Goals as goal
 
 pub returns-then-keeps_work : goal.returns-then-keeps_work

@@ -1,5 +1,5 @@
 -- The proof of finish::finish::write_array, by answers to its goals.
-use Rattle.std.proofs.Common.{arith, rules}
+use Rattle.std.proofs.Common.{arith}
 use Rattle.finish.specs.FinishLaws.{array_written}
 use Rattle.finish.proofs.finish.write_array.Goals as goal
 

@@ -1,5 +1,5 @@
 -- The proof of finish::lines::write_positions, by answers to its goals.
-use Rattle.std.proofs.Common.{arith, rules}
+use Rattle.std.proofs.Common.{arith}
 use Rattle.finish.specs.LinesLaws.{entries_ready, entries_lines, refused_lines}
 use Rattle.finish.proofs.lines.write_positions.Goals as goal
 

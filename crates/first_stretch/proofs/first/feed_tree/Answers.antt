@@ -1,5 +1,5 @@
 -- The proof of first_stretch::first::feed_tree, by answers to its goals.
-use Rattle.std.proofs.Common.{arith, rules}
+use Rattle.std.proofs.Common.{arith}
 use Rattle.first_stretch.specs.FirstLaws.{tree_small, tree_feed, tree_fed}
 use Rattle.first_stretch.proofs.first.feed_tree.Goals as goal
 

@@ -1,7 +1,7 @@
 -- The proof of first_stretch::first::feed_trees, by answers to its goals: what is right for the trees that are left is right
 -- for all.
-use Rattle.std.proofs.Common.{rules, refl, sym, ◌∙◌, ◌-◌, arith, length}
-use Rattle.first_stretch.specs.FirstLaws.{FirstGoing, first_begin, first_lent, first_back, first_end, first_places, first_tree, first_since, first_stop, first_again}
+use Rattle.std.proofs.Common.{refl, sym, ◌∙◌, ◌-◌, arith}
+use Rattle.first_stretch.specs.FirstLaws.{first_begin, first_lent, first_back, first_end, first_places, first_tree, first_since, first_stop, first_again}
 use Rattle.first_stretch.proofs.first.feed_trees.Goals as goal
 
 pub loop-at-init : goal.loop-at-init

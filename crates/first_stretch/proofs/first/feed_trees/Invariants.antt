@@ -1,5 +1,5 @@
-use Rattle.std.proofs.Common.{rules, refl, sym, ◌∙◌, ◌-◌, arith, length}
-use Rattle.first_stretch.specs.FirstLaws.{FirstGoing, first_begin, first_lent, first_back, first_end, first_places, first_tree, first_since, first_stop, first_again}
+use Rattle.std.proofs.Common.{◌-◌, length}
+use Rattle.first_stretch.specs.FirstLaws.{FirstGoing}
 use Rattle.first_stretch.proofs.first.feed_trees.Given as goal
 
 abbrev pub invariant-loop-at : goal.invariant-loop-at

@@ -1,5 +1,4 @@
 -- The proof of first_stretch::first::first, by answers to its goals.
-use Rattle.std.proofs.Common.{rules, arith}
 use Rattle.first_stretch.specs.FirstLaws.{first_stages, first_standing, first_copied}
 use Rattle.first_stretch.proofs.first.first.Goals as goal
 

@@ -1,5 +1,5 @@
 -- The proof of first_stretch::first::none_before, by answers to its goals.
-use Rattle.std.proofs.Common.{arith, refl, rules}
+use Rattle.std.proofs.Common.{arith, refl}
 use Rattle.stretch.specs.NextLaws.{next_places, next_stage}
 use Rattle.first_stretch.specs.FirstLaws.{none_end, none_first}
 use Rattle.first_stretch.proofs.first.none_before.Goals as goal

@@ -1,6 +1,5 @@
-use Rattle.std.proofs.Common.{rules, arith, ◌≡◌, sym, ◌∙◌, ◌≤◌, ◌-◌, ℕ, ◌<◌}
-use Rattle.format.specs.Check.{rest_ok, place}
-use Rattle.format.specs.CheckLaws.{step_on, step_inward, step_done, step_bad, inward_good, inward_bad}
+use Rattle.std.proofs.Common.{◌≡◌, ◌≤◌, ◌-◌}
+use Rattle.format.specs.Check.{rest_ok}
 use Rattle.format.proofs.check.+check_rest.Given as goal
 
 abbrev pub decreases-check_rest : goal.decreases-check_rest

@@ -1,6 +1,5 @@
 -- `check::check_array`: the length first, then whether the bytes are an array.
-use Rattle.std.proofs.Common.{sym, ◌∙◌, rules, arith}
-use borrow.Author.Tests.{not-true, not-false}
+use Rattle.std.proofs.Common.{sym, ◌∙◌}
 use Rattle.format.specs.CheckLaws.{array_over, array_accepted, array_malformed}
 use Rattle.format.proofs.check.check_array.Goals as goal
 

@@ -1,5 +1,5 @@
 -- `check::check_array_field`: by its tag; no labels stand behind its trees.
-use Rattle.std.proofs.Common.{sym, ◌∙◌, rules, arith}
+use Rattle.std.proofs.Common.{sym, ◌∙◌}
 use Rattle.format.specs.Check.{place}
 use Rattle.format.specs.CheckLaws.{array_tag, array_trees_lem, rest_trees}
 use Rattle.format.proofs.check.check_array_field.Goals as goal

@@ -1,5 +1,5 @@
 -- `check::check_bit`: one byte below 2, or another number of bytes.
-use Rattle.std.proofs.Common.{sym, rules, arith}
+use Rattle.std.proofs.Common.{sym}
 use Rattle.format.specs.CheckLaws.{root_bit, root_not_bit}
 use Rattle.format.proofs.check.check_bit.Goals as goal
 

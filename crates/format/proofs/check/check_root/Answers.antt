@@ -1,5 +1,5 @@
 -- `check::check_root`: by the tag, integers first.
-use Rattle.std.proofs.Common.{sym, ◌∙◌, ap, ℕ, eq-eqb, rules, arith}
+use Rattle.std.proofs.Common.{sym, ◌∙◌, ap, ℕ, eq-eqb}
 use lib.Seq.{slice}
 use Rattle.format.specs.Check.{root_ok}
 use Rattle.format.specs.CheckLaws.{root_void, root_integer, root_text, root_bad, root_eight}

@@ -1,5 +1,5 @@
 -- `check::is_bare`: the six bytes of the two heads.
-use Rattle.std.proofs.Common.{arith, ◌≡◌, sym, ◌∙◌, ℕ, eqb-true, rules}
+use Rattle.std.proofs.Common.{arith, ◌≡◌, sym, ◌∙◌, ℕ, eqb-true}
 use Rattle.format.specs.CheckLaws.{bare_at}
 use Rattle.format.proofs.check.is_bare.Goals as goal
 

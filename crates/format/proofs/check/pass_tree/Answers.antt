@@ -1,6 +1,5 @@
 -- `check::pass_tree`: each return is a case of a tree.
 use Rattle.std.proofs.Common.{arith, sym, ◌∙◌, rules}
-use borrow.Author.Tests.{not-true, not-false}
 use Rattle.format.specs.HeadLaws.{head_found}
 use Rattle.format.specs.CheckLaws.{tree_tag, tree_large, tree_root, tree_nothing, rest_nothing, rest_bad, rest_inward, rest_on}
 use Rattle.format.proofs.check.pass_tree.Goals as goal

@@ -1,5 +1,5 @@
 -- `check::take_step`: at the end of the trees a label, else a tree.
-use Rattle.std.proofs.Common.{arith, refl, ◌∙◌, ◌+◌, ◌-◌, eq-eqb, rules}
+use Rattle.std.proofs.Common.{arith, refl, ◌∙◌, ◌+◌, ◌-◌, eq-eqb}
 use Rattle.format.specs.CheckLaws.{rest_deep, rest_bare, root_void, root_integer}
 use Rattle.format.proofs.check.take_step.Goals as goal
 

@@ -1,9 +1,6 @@
-use Rattle.std.proofs.Common.{arith, rules, refl, Bool, ◌+◌, ◌*◌, ◌-◌, leb, ℕ, ◌<◌}
-use borrow.Author.Tests.{not-true, not-false}
+use Rattle.std.proofs.Common.{Bool, ◌+◌, ◌*◌, ◌-◌, leb}
 use Rattle.spec_trees.specs.Size.{depth_a, depth_l}
 use Rattle.format.specs.Stand.{trees_bytes, labels_bytes, Holds, Says}
-use Rattle.format.specs.StandLaws.{labels_places, trees_places, tree_places, holds_array, holds_others, holds_first, holds_rest, holds_labels}
-use Rattle.format.specs.DepthLaws.{trees_end, trees_short, no_level, trees_deep, trees_next, labels_end, labels_deep, labels_next}
 use Rattle.format.proofs.depth.+nesting.Given as goal
 
 abbrev pub decreases-labels_within : goal.decreases-labels_within

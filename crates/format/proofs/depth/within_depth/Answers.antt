@@ -1,5 +1,5 @@
 -- The proof of format::depth::within_depth, by answers to its goals.
-use Rattle.std.proofs.Common.{arith, rules}
+use Rattle.std.proofs.Common.{arith}
 use Rattle.format.specs.DepthLaws.{trees_short}
 use Rattle.format.proofs.depth.within_depth.Goals as goal
 

@@ -1,5 +1,5 @@
 -- `head::head_at`: each return is a case of `headAt`.
-use Rattle.std.proofs.Common.{arith, ◌+◌, ◌≤◌, ◌<◌, sym, rules}
+use Rattle.std.proofs.Common.{arith, ◌+◌, ◌≤◌, ◌<◌, sym}
 use Rattle.format.specs.HeadLaws.{head_short, head_over, head_field}
 use Rattle.format.proofs.head.head_at.Goals as goal
 

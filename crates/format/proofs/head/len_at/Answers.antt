@@ -1,5 +1,5 @@
 -- `head::len_at`: the two bytes behind the tag.
-use Rattle.std.proofs.Common.{◌∙◌, rules, arith}
+use Rattle.std.proofs.Common.{◌∙◌}
 use Rattle.areas.specs.NumberLaws.{two_behind}
 use Rattle.format.proofs.head.len_at.Goals as goal
 

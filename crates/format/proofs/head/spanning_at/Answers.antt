@@ -1,5 +1,5 @@
 -- `head::spanning_at`: by the head that stands there, and whether it ends at `end`.
-use Rattle.std.proofs.Common.{sym, ◌∙◌, rules, arith}
+use Rattle.std.proofs.Common.{sym, ◌∙◌}
 use Rattle.format.specs.HeadLaws.{span_field, span_trailing, span_nothing}
 use Rattle.format.proofs.head.spanning_at.Goals as goal
 

@@ -1,5 +1,5 @@
 -- The proof of format::labels::entry, by answers to its goals.
-use Rattle.std.proofs.Common.{arith, rules}
+use Rattle.std.proofs.Common.{arith}
 use Rattle.spec_trees.specs.Bytes.{label_heads}
 use Rattle.format.specs.Stand.{entry_of}
 use Rattle.format.specs.StandLaws.{heads_least, length_entry}

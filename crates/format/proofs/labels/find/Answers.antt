@@ -1,8 +1,5 @@
 -- The proof of format::labels::find, by answers to its goals: what is right for the labels from `at` on is right for all.
-use Rattle.std.proofs.Common.{arith, rules, refl, sym, ap, ◌∙◌, ◌+◌, ◌-◌}
-use Rattle.areas.specs.Area.{span}
-use Rattle.format.specs.declared.labels.Found.{Found}
-use Rattle.format.specs.Stand.{labels_bytes, Holds, Finds}
+use Rattle.std.proofs.Common.{arith, refl, sym, ap, ◌∙◌, ◌+◌, ◌-◌}
 use Rattle.format.specs.StandLaws.{heads_most, labels_places, holds_others}
 use Rattle.format.specs.LabelLaws.{finds_none, finds_here, finds_next}
 use Rattle.format.proofs.labels.find.Goals as goal

@@ -1,9 +1,7 @@
-use Rattle.std.proofs.Common.{arith, rules, refl, sym, ap, ◌∙◌, ◌+◌, ◌-◌}
+use Rattle.std.proofs.Common.{◌-◌}
 use Rattle.areas.specs.Area.{span}
 use Rattle.format.specs.declared.labels.Found.{Found}
 use Rattle.format.specs.Stand.{labels_bytes, Holds, Finds}
-use Rattle.format.specs.StandLaws.{heads_most, labels_places, holds_others}
-use Rattle.format.specs.LabelLaws.{finds_none, finds_here, finds_next}
 use Rattle.format.proofs.labels.find.Given as goal
 
 abbrev pub invariant-loop-at : goal.invariant-loop-at

@@ -1,5 +1,5 @@
 -- The proof of format::labels::heads, by answers to its goals.
-use Rattle.std.proofs.Common.{refl, rules, arith}
+use Rattle.std.proofs.Common.{refl}
 use Rattle.spec_trees.specs.Bytes.{label_heads}
 use Rattle.format.proofs.labels.heads.Goals as goal
 

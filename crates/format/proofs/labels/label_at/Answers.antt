@@ -1,5 +1,5 @@
 -- The proof of format::labels::label_at, by answers to its goals.
-use Rattle.std.proofs.Common.{arith, refl, ◌+◌, rules}
+use Rattle.std.proofs.Common.{arith, refl, ◌+◌}
 use Rattle.format.specs.Labels.{label_at}
 use Rattle.format.proofs.labels.label_at.Goals as goal
 

@@ -1,5 +1,4 @@
 -- The proof of format::labels::put_label, by answers to its goals.
-use Rattle.std.proofs.Common.{rules, arith}
 use Rattle.format.specs.HeadedLaws.{byte_wrote}
 use Rattle.format.proofs.labels.put_label.Goals as goal
 

@@ -1,5 +1,5 @@
 -- The proof of format::labels::trees_at, by answers to its goals.
-use Rattle.std.proofs.Common.{ap, ◌+◌, rules, arith}
+use Rattle.std.proofs.Common.{ap, ◌+◌}
 use Rattle.format.specs.Labels.{trees_at}
 use Rattle.format.proofs.labels.trees_at.Goals as goal
 

@@ -1,5 +1,5 @@
 -- `view::span_head`: the part is tested, and then read.
-use Rattle.std.proofs.Common.{◌∙◌, le-leb, rules, arith}
+use Rattle.std.proofs.Common.{◌∙◌, le-leb}
 use borrow.Author.Tests.{lt-leb}
 use Rattle.format.proofs.view.span_head.Goals as goal
 

@@ -1,5 +1,5 @@
 -- `view::spanning`: all the bytes are within the slice.
-use Rattle.std.proofs.Common.{arith, ◌∙◌, length, le-leb, rules}
+use Rattle.std.proofs.Common.{arith, ◌∙◌, length, le-leb}
 use Rattle.format.proofs.view.spanning.Goals as goal
 
 pub returns : goal.returns

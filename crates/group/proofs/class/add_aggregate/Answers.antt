@@ -1,5 +1,4 @@
 -- The proof of group::class::add_aggregate, by answers to its goals.
-use Rattle.std.proofs.Common.{rules, arith}
 use Rattle.queries.specs.PartLaws.{holds_of}
 use Rattle.group.specs.PairLaws.{plain_ready, total_ready, plain_added, total_added}
 use Rattle.group.proofs.class.add_aggregate.Goals as goal

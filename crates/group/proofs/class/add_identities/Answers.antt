@@ -1,11 +1,10 @@
 -- The proof of group::class::add_identities, by answers to its goals: what is right for the pairs from `at` on,
 -- added to the tree so far, is right for all.
-use Rattle.std.proofs.Common.{arith, rules, ◌≡◌, refl, ◌∙◌, List, ℕ, ◌-◌, length}
+use Rattle.std.proofs.Common.{arith, refl, ◌∙◌, ◌-◌}
 use Rattle.areas.specs.declared.area.Out.{Out}
 use Rattle.spec_queries.specs.Bytes.{pair_f}
 use Rattle.queries.specs.PartLaws.{holds_of, list_places}
-use Rattle.areas.specs.Area.{span}
-use Rattle.group.specs.Grow.{sourced_part, Always, FirstAt, PairsReady, PairsGrow}
+use Rattle.group.specs.Grow.{sourced_part, Always, FirstAt}
 use Rattle.group.specs.GrowLaws.{pairs_done, pairs_first, pairs_stop, pairs_rest, pairs_next}
 use Rattle.group.specs.PairLaws.{first_keep}
 use Rattle.group.proofs.class.add_identities.Goals as goal

@@ -1,11 +1,7 @@
-use Rattle.std.proofs.Common.{arith, rules, ◌≡◌, refl, ◌∙◌, List, ℕ, ◌-◌, length}
+use Rattle.std.proofs.Common.{◌≡◌, List, ℕ, ◌-◌, length}
 use Rattle.areas.specs.declared.area.Out.{Out}
-use Rattle.spec_queries.specs.Bytes.{pair_f}
-use Rattle.queries.specs.PartLaws.{holds_of, list_places}
 use Rattle.areas.specs.Area.{span}
 use Rattle.group.specs.Grow.{sourced_part, Always, FirstAt, PairsReady, PairsGrow}
-use Rattle.group.specs.GrowLaws.{pairs_done, pairs_first, pairs_stop, pairs_rest, pairs_next}
-use Rattle.group.specs.PairLaws.{first_keep}
 use Rattle.group.proofs.class.add_identities.Given as goal
 
 abbrev pub invariant-loop-at : goal.invariant-loop-at

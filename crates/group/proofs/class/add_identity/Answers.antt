@@ -1,5 +1,5 @@
 -- The proof of group::class::add_identity, by answers to its goals.
-use Rattle.std.proofs.Common.{arith, ◌∙◌, rules}
+use Rattle.std.proofs.Common.{arith, ◌∙◌}
 use Rattle.queries.specs.PartLaws.{holds_of}
 use Rattle.group.specs.Grow.{identity_value, Always, FirstAt}
 use Rattle.group.specs.PairLaws.{first_sound, target_along, target_places, value_ready, part_adding, part_grows, identity_ready, identity_values}

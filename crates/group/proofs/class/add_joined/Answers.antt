@@ -1,5 +1,5 @@
 -- The proof of group::class::add_joined, by answers to its goals.
-use Rattle.std.proofs.Common.{arith, ◌∙◌, rules}
+use Rattle.std.proofs.Common.{arith, ◌∙◌}
 use Rattle.queries.specs.PartLaws.{holds_of}
 use Rattle.group.specs.Grow.{joined_value, Always, ClassAt}
 use Rattle.group.specs.PairLaws.{class_sound, target_along, target_places, value_ready, part_adding, part_grows, aggregate_ready, aggregate_values}

@@ -1,6 +1,4 @@
 -- The proof of group::class::add_sourced, by answers to its goals.
-use Rattle.std.proofs.Common.{rules, arith}
-use borrow.Author.Tests.{not-true, not-false}
 use Rattle.queries.specs.PartLaws.{holds_of}
 use Rattle.keys.specs.KeyLaws.{pair_walk, sourced_is}
 use Rattle.group.specs.PairLaws.{first_holds, sourced_skip, sourced_add}

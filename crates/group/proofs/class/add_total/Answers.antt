@@ -1,5 +1,5 @@
 -- The proof of group::class::add_total, by answers to its goals.
-use Rattle.std.proofs.Common.{arith, ◌∙◌, rules}
+use Rattle.std.proofs.Common.{arith, ◌∙◌}
 use Rattle.queries.specs.PartLaws.{holds_of}
 use Rattle.group.specs.Grow.{total_value, TotalFits, ClassAt}
 use Rattle.group.specs.PairLaws.{total_sound, target_along, target_places, value_ready, part_adding, part_grows, total_walk, total_values}

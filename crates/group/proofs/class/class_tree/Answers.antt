@@ -1,5 +1,5 @@
 -- The proof of group::class::class_tree, by answers to its goals.
-use Rattle.std.proofs.Common.{arith, rules}
+use Rattle.std.proofs.Common.{arith}
 use Rattle.group.specs.ClassLaws.{class_ready, class_stop, identities_ready, class_made}
 use Rattle.group.proofs.class.class_tree.Goals as goal
 

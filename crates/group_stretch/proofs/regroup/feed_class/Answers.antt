@@ -1,5 +1,5 @@
 -- The proof of group_stretch::regroup::feed_class, by answers to its goals.
-use Rattle.std.proofs.Common.{arith, rules}
+use Rattle.std.proofs.Common.{arith}
 use Rattle.group_stretch.specs.GroupLaws as law
 use Rattle.group_stretch.proofs.regroup.feed_class.Goals as goal
 

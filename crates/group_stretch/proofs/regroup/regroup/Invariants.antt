@@ -1,4 +1,4 @@
-use Rattle.std.proofs.Common.{arith, rules, refl, sym, ◌∙◌, ◌-◌}
+use Rattle.std.proofs.Common.{◌-◌}
 use Rattle.classes.specs.Read.{reached}
 use Rattle.group_stretch.specs.GroupLaws as law
 use Rattle.group_stretch.proofs.regroup.regroup.Given as goal

@@ -1,5 +1,4 @@
 -- The proof of key_index::enter::clear_heads, by answers to its goals.
-use Rattle.std.proofs.Common.{rules, arith}
 use Rattle.key_index.specs.AllLaws.{heads_cleared}
 use Rattle.key_index.proofs.enter.clear_heads.Goals as goal
 

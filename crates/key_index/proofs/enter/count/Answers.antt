@@ -1,5 +1,5 @@
 -- The proof of key_index::enter::count, by answers to its goals.
-use Rattle.std.proofs.Common.{arith, ap, subst, length, ◌+◌, rules}
+use Rattle.std.proofs.Common.{arith, subst, ◌+◌}
 use Rattle.areas.specs.Area.{Wrote}
 use Rattle.areas.specs.Number.{two_bytes}
 use Rattle.areas.specs.declared.area.Out.TheVariants.{At}

@@ -1,5 +1,5 @@
 -- The proof of key_index::enter::enter, by answers to its goals.
-use Rattle.std.proofs.Common.{arith, refl, sym, ap, ◌∙◌, rules}
+use Rattle.std.proofs.Common.{arith, ap, ◌∙◌}
 use Rattle.areas.specs.Number.{two_at}
 use Rattle.key_index.specs.Index.{base}
 use Rattle.areas.specs.NumberLaws.{put}

@@ -1,4 +1,4 @@
-use Rattle.std.proofs.Common.{arith, length, ◌≡◌, refl, ◌∙◌, ◌-◌, rules}
+use Rattle.std.proofs.Common.{length, ◌≡◌, ◌-◌}
 use Rattle.key_index.specs.Index.{Collected}
 use Rattle.key_index.specs.AllLaws as law
 use Rattle.key_index.proofs.enter.enter_all.Given as goal

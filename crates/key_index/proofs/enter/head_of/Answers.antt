@@ -1,5 +1,5 @@
 -- The proof of key_index::enter::head_of, by answers to its goals.
-use Rattle.std.proofs.Common.{arith, ap, ◌%◌, rules}
+use Rattle.std.proofs.Common.{arith, ap, ◌%◌}
 use Rattle.key_index.specs.Index.{head_at, slots}
 use Rattle.key_index.proofs.enter.head_of.Goals as goal
 

@@ -1,7 +1,6 @@
 -- The proof of key_index::enter::last_like, by answers to its goals: the last with the same key is among those that are
 -- left.
-use Rattle.std.proofs.Common.{arith, refl, rules}
-use Rattle.key_index.specs.Entering.{Search}
+use Rattle.std.proofs.Common.{arith}
 use Rattle.key_index.specs.SearchLaws as law
 use Rattle.key_index.proofs.enter.last_like.Goals as goal
 

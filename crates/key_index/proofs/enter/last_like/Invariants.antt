@@ -1,4 +1,3 @@
-use Rattle.std.proofs.Common.{arith, refl, rules}
 use Rattle.key_index.specs.Entering.{Search}
 use Rattle.key_index.specs.SearchLaws as law
 use Rattle.key_index.proofs.enter.last_like.Given as goal

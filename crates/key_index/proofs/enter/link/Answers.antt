@@ -1,5 +1,5 @@
 -- The proof of key_index::enter::link, by answers to its goals.
-use Rattle.std.proofs.Common.{arith, rules}
+use Rattle.std.proofs.Common.{arith}
 use Rattle.key_index.specs.EnteringLaws.{stored_not, stored_put}
 use Rattle.key_index.proofs.enter.link.Goals as goal
 

@@ -1,5 +1,5 @@
 -- The proof of key_index::enter::mark_of, by answers to its goals.
-use Rattle.std.proofs.Common.{arith, ◌∙◌, rules}
+use Rattle.std.proofs.Common.{arith, ◌∙◌}
 use Rattle.key_index.specs.EnteringLaws.{mark_first, mark_later, sum_small}
 use Rattle.key_index.proofs.enter.mark_of.Goals as goal
 

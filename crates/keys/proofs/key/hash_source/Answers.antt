@@ -1,5 +1,4 @@
 -- The proof of keys::key::hash_source, by answers to its goals.
-use Rattle.std.proofs.Common.{rules, arith}
 use Rattle.keys.specs.KeyLaws.{pair_walk}
 use Rattle.keys.specs.KeyHashLaws.{source_hash}
 use Rattle.keys.proofs.key.hash_source.Goals as goal

@@ -1,13 +1,8 @@
 -- The proof of keys::key::key_hash, by answers to its goals: what is right for the pairs from `at` on, with the number
 -- so far, is right for all.
-use Rattle.std.proofs.Common.{arith, refl, ℕ, ◌-◌, ◌<◌, rules}
-use Rattle.format.specs.Stand.{Holds}
+use Rattle.std.proofs.Common.{arith, refl, ◌-◌}
 use Rattle.spec_queries.specs.Bytes.{pair_f}
-use Rattle.queries.specs.Places.{pairs_bytes}
 use Rattle.queries.specs.PartLaws.{list_places, list_first, list_rest}
-use Rattle.areas.specs.Area.{span}
-use Rattle.paths.specs.Hash.{hash_limit}
-use Rattle.keys.specs.KeyHash.{KeyHashFrom, KeyHashIs}
 use Rattle.keys.specs.KeyHashLaws.{hash_none, hash_next}
 use Rattle.keys.proofs.key.key_hash.Goals as goal
 

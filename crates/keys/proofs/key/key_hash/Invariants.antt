@@ -1,12 +1,9 @@
-use Rattle.std.proofs.Common.{arith, refl, ℕ, ◌-◌, ◌<◌, rules}
+use Rattle.std.proofs.Common.{ℕ, ◌-◌, ◌<◌}
 use Rattle.format.specs.Stand.{Holds}
-use Rattle.spec_queries.specs.Bytes.{pair_f}
 use Rattle.queries.specs.Places.{pairs_bytes}
-use Rattle.queries.specs.PartLaws.{list_places, list_first, list_rest}
 use Rattle.areas.specs.Area.{span}
 use Rattle.paths.specs.Hash.{hash_limit}
 use Rattle.keys.specs.KeyHash.{KeyHashFrom, KeyHashIs}
-use Rattle.keys.specs.KeyHashLaws.{hash_none, hash_next}
 use Rattle.keys.proofs.key.key_hash.Given as goal
 
 abbrev pub invariant-loop-at : goal.invariant-loop-at

@@ -1,13 +1,8 @@
 -- The proof of keys::key::same_key, by answers to its goals: what is right for the pairs from `at` on is right for
 -- all.
-use Rattle.std.proofs.Common.{arith, refl, Bool, true, false, ◌-◌, rules}
-use borrow.Author.Tests.{not-true, not-false}
-use Rattle.format.specs.Stand.{Holds}
+use Rattle.std.proofs.Common.{arith, refl, true, false, ◌-◌}
 use Rattle.spec_queries.specs.Bytes.{pair_f}
-use Rattle.queries.specs.Places.{pairs_bytes}
 use Rattle.queries.specs.PartLaws.{list_places, list_first, list_rest}
-use Rattle.areas.specs.Area.{span}
-use Rattle.keys.specs.Keys.{AlikeIs}
 use Rattle.keys.specs.KeyLaws.{alike_none, alike_other, alike_next}
 use Rattle.keys.proofs.key.same_key.Goals as goal
 

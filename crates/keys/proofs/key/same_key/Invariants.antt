@@ -1,12 +1,8 @@
-use Rattle.std.proofs.Common.{arith, refl, Bool, true, false, ◌-◌, rules}
-use borrow.Author.Tests.{not-true, not-false}
+use Rattle.std.proofs.Common.{Bool, ◌-◌}
 use Rattle.format.specs.Stand.{Holds}
-use Rattle.spec_queries.specs.Bytes.{pair_f}
 use Rattle.queries.specs.Places.{pairs_bytes}
-use Rattle.queries.specs.PartLaws.{list_places, list_first, list_rest}
 use Rattle.areas.specs.Area.{span}
 use Rattle.keys.specs.Keys.{AlikeIs}
-use Rattle.keys.specs.KeyLaws.{alike_none, alike_other, alike_next}
 use Rattle.keys.proofs.key.same_key.Given as goal
 
 abbrev pub invariant-loop-at : goal.invariant-loop-at

@@ -1,5 +1,4 @@
 -- The proof of keys::key::same_source, by answers to its goals.
-use Rattle.std.proofs.Common.{rules, arith}
 use Rattle.keys.specs.KeyLaws.{pair_walk, same_source_is}
 use Rattle.keys.proofs.key.same_source.Goals as goal
 

@@ -1,5 +1,4 @@
 -- The proof of keys::key::sourced, by answers to its goals.
-use Rattle.std.proofs.Common.{rules, arith}
 use Rattle.keys.specs.KeyLaws.{pair_walk, sourced_is}
 use Rattle.keys.proofs.key.sourced.Goals as goal
 

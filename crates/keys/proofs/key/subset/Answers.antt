@@ -1,12 +1,9 @@
 -- The proof of keys::key::subset, by answers to its goals: n of the pairs from `at` on is, times the weight, what
 -- they add to the sum.
-use Rattle.std.proofs.Common.{arith, rules, refl, ℕ, ◌+◌, ◌*◌, ◌-◌, ◌<◌}
+use Rattle.std.proofs.Common.{arith, refl, ◌-◌}
 use Rattle.spec_queries.specs.Bytes.{pair_f}
-use Rattle.queries.specs.Places.{pairs_bytes, HoldsOk}
 use Rattle.queries.specs.PartLaws.{holds_of, list_places, list_first}
-use Rattle.areas.specs.Area.{span}
-use Rattle.keys.specs.Keys.{SubsetIs}
-use Rattle.keys.specs.KeyLaws.{WeightFits, weighed_first, weighed_small, weighed_next, subset_start, subset_end, subset_on}
+use Rattle.keys.specs.KeyLaws.{weighed_first, weighed_small, weighed_next, subset_start, subset_end, subset_on}
 use Rattle.keys.proofs.key.subset.Goals as goal
 
 pub loop-at-init : goal.loop-at-init

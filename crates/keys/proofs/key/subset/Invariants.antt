@@ -1,10 +1,8 @@
-use Rattle.std.proofs.Common.{arith, rules, refl, ℕ, ◌+◌, ◌*◌, ◌-◌, ◌<◌}
-use Rattle.spec_queries.specs.Bytes.{pair_f}
+use Rattle.std.proofs.Common.{ℕ, ◌+◌, ◌*◌, ◌-◌, ◌<◌}
 use Rattle.queries.specs.Places.{pairs_bytes, HoldsOk}
-use Rattle.queries.specs.PartLaws.{holds_of, list_places, list_first}
 use Rattle.areas.specs.Area.{span}
 use Rattle.keys.specs.Keys.{SubsetIs}
-use Rattle.keys.specs.KeyLaws.{WeightFits, weighed_first, weighed_small, weighed_next, subset_start, subset_end, subset_on}
+use Rattle.keys.specs.KeyLaws.{WeightFits}
 use Rattle.keys.proofs.key.subset.Given as goal
 
 abbrev pub invariant-loop-at : goal.invariant-loop-at

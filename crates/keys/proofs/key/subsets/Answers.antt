@@ -1,12 +1,9 @@
 -- The proof of keys::key::subsets, by answers to its goals: what the pairs from `at` on have is taken
 -- n times.
-use Rattle.std.proofs.Common.{arith, refl, ℕ, ◌*◌, ◌-◌, rules}
+use Rattle.std.proofs.Common.{arith, refl, ◌-◌}
 use Rattle.spec_queries.specs.Bytes.{pair_f}
-use Rattle.areas.specs.Area.{span}
-use Rattle.queries.specs.Places.{pairs_bytes, HoldsOk}
 use Rattle.queries.specs.PartLaws.{holds_of, list_places}
-use Rattle.keys.specs.KeyLaws.{WeightFits, weighed_first, weighed_small, weighed_next, subsets_start, subsets_on, subsets_end}
-use Rattle.keys.specs.Keys.{SubsetsIs}
+use Rattle.keys.specs.KeyLaws.{weighed_first, weighed_small, weighed_next, subsets_start, subsets_on, subsets_end}
 use Rattle.keys.proofs.key.subsets.Goals as goal
 
 pub loop-at-init : goal.loop-at-init

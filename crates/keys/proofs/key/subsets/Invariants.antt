@@ -1,9 +1,7 @@
-use Rattle.std.proofs.Common.{arith, refl, ℕ, ◌*◌, ◌-◌, rules}
-use Rattle.spec_queries.specs.Bytes.{pair_f}
+use Rattle.std.proofs.Common.{ℕ, ◌*◌, ◌-◌}
 use Rattle.areas.specs.Area.{span}
 use Rattle.queries.specs.Places.{pairs_bytes, HoldsOk}
-use Rattle.queries.specs.PartLaws.{holds_of, list_places}
-use Rattle.keys.specs.KeyLaws.{WeightFits, weighed_first, weighed_small, weighed_next, subsets_start, subsets_on, subsets_end}
+use Rattle.keys.specs.KeyLaws.{WeightFits}
 use Rattle.keys.specs.Keys.{SubsetsIs}
 use Rattle.keys.proofs.key.subsets.Given as goal
 

@@ -1,5 +1,4 @@
 -- The proof of lookup::lookup::copy_match, by answers to its goals.
-use Rattle.std.proofs.Common.{rules, arith}
 use Rattle.lookup.specs.LookupLaws.{match_copied, match_left}
 use Rattle.lookup.proofs.lookup.copy_match.Goals as goal
 

@@ -1,10 +1,9 @@
-use Rattle.std.proofs.Common.{arith, rules, ◌≡◌, refl, ◌∙◌, List, ℕ, ◌-◌, length}
+use Rattle.std.proofs.Common.{◌≡◌, List, ℕ, ◌-◌, length}
 use Rattle.areas.specs.declared.area.Out.{Out}
 use Rattle.spec_trees.specs.Within.{AllowedA}
 use Rattle.areas.specs.Area.{span}
 use Rattle.queries.specs.Places.{array_trees}
 use Rattle.lookup.specs.Lookup.{Matching, CopiesPartners}
-use Rattle.lookup.specs.LookupLaws.{partners_done, partners_places, partners_match, partners_rest, partners_stop, partners_next}
 use Rattle.lookup.proofs.lookup.copy_partners.Given as goal
 
 abbrev pub invariant-loop-from : goal.invariant-loop-from

@@ -1,5 +1,5 @@
 -- The proof of lookup::lookup::lookup, by answers to its goals.
-use Rattle.std.proofs.Common.{arith, rules}
+use Rattle.std.proofs.Common.{arith}
 use Rattle.build.specs.MadeLaws.{target_along, target_room}
 use Rattle.lookup.specs.LookupLaws.{lookup_matching, lookup_value, lookup_adding, lookup_made}
 use Rattle.lookup.proofs.lookup.lookup.Goals as goal

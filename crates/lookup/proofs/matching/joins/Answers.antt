@@ -1,5 +1,4 @@
 -- The proof of lookup::matching::joins, by answers to its goals.
-use Rattle.std.proofs.Common.{rules, arith}
 use Rattle.lookup.specs.MatchingLaws.{joins_is}
 use Rattle.lookup.proofs.matching.joins.Goals as goal
 

@@ -1,11 +1,9 @@
-use Rattle.std.proofs.Common.{arith, rules, ◌≡◌, refl, ◌∙◌, List, ℕ, ◌+◌, ◌*◌, ◌-◌, ◌≤◌, length, ◌<◌}
+use Rattle.std.proofs.Common.{◌≡◌, List, ℕ, ◌+◌, ◌*◌, ◌-◌, ◌≤◌, length}
 use Rattle.areas.specs.declared.area.Out.{Out}
 use Rattle.areas.specs.Area.{span}
 use Rattle.format.specs.Stand.{labels_bytes, trees_bytes}
-use Rattle.format.specs.StandLaws.{heads_most, tree_places, labels_places, trees_places}
 use Rattle.spec_stages.specs.MergeTwo.{merge_two_l, merge_two_a}
 use Rattle.merge.specs.MergeBytes.{MergeReady, Merged}
-use Rattle.merge.specs.MergeBytesLaws.{first_copied, second_copied, turn_fail, turn_next, turn_ready, tree_no_room, ready_root, tree_fail, ready_labels, tree_finishable, tree_done, labels_first_none, labels_second_none, ready_first, labels_turn, places_move, places_fall, entry_places, entry_heads, entry_trees_at, first_less, first_more, entry_both, entry_no_room, ready_arrays, array_finishable, entry_finishable, entry_done, trees_first_none, trees_second_none, ready_node, trees_turn}
 use Rattle.merge.proofs.merge.+merging.Given as goal
 
 abbrev pub decreases-merge_entry : goal.decreases-merge_entry

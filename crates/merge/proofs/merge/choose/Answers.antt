@@ -1,5 +1,5 @@
 -- The proof of merge::merge::choose, by answers to its goals.
-use Rattle.std.proofs.Common.{sym, ap, cond, lt-ltb, le-ltb, arith, rules}
+use Rattle.std.proofs.Common.{sym, ap, cond, lt-ltb, le-ltb}
 use Rattle.merge.proofs.merge.choose.Goals as goal
 
 pub returns-then-label-bound : goal.returns-then-label-bound

@@ -1,5 +1,5 @@
 -- The proof of merge::merge::merge_root, by answers to its goals.
-use Rattle.std.proofs.Common.{arith, rules}
+use Rattle.std.proofs.Common.{arith}
 use Rattle.merge.specs.MergeBytesLaws.{first_copied, second_copied, root_void, root_full, root_inside}
 use Rattle.merge.proofs.merge.merge_root.Goals as goal
 

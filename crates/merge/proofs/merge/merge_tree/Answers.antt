@@ -1,6 +1,6 @@
 -- The proof of merge::merge::merge_tree, by answers to its goals: of well formed trees the merge by two places is the
 -- merge.
-use Rattle.std.proofs.Common.{subst, rules, arith}
+use Rattle.std.proofs.Common.{subst}
 use Rattle.spec_trees.specs.Bytes.{tree_bytes}
 use Rattle.areas.specs.Area.{Wrote}
 use Rattle.spec_stages.specs.MergeTwoLaws.{two_merge}

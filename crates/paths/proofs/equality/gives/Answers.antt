@@ -1,5 +1,4 @@
 -- The proof of paths::equality::gives, by answers to its goals.
-use Rattle.std.proofs.Common.{rules, arith}
 use Rattle.paths.specs.EqualLaws.{gives_other, gives_same}
 use Rattle.paths.proofs.equality.gives.Goals as goal
 

@@ -1,5 +1,4 @@
 -- The proof of paths::equality::path_equals_literal, by answers to its goals.
-use Rattle.std.proofs.Common.{rules, arith}
 use Rattle.spec_trees.specs.Tree.{trees}
 use Rattle.spec_stages.specs.Paths.{apply}
 use Rattle.paths.specs.SameLaws.{apply_allowed}

@@ -1,6 +1,5 @@
 -- The proof of paths::equality::path_is, by answers to its goals.
-use Rattle.std.proofs.Common.{arith, sym, ◌∙◌, rules}
-use borrow.Author.Tests.{not-true, not-false}
+use Rattle.std.proofs.Common.{arith, sym, ◌∙◌}
 use Rattle.spec_stages.specs.Paths.{apply}
 use Rattle.paths.specs.WalkLaws.{walk_room}
 use Rattle.paths.specs.EqualLaws.{array_absent, array_missing, array_given, array_part}

@@ -1,5 +1,4 @@
 -- The proof of paths::equality::same_as_piece, by answers to its goals.
-use Rattle.std.proofs.Common.{rules, arith}
 use Rattle.spec_stages.specs.Paths.{apply}
 use Rattle.paths.specs.SameLaws.{apply_allowed}
 use Rattle.paths.specs.EqualLaws.{piece_missing, piece_same}

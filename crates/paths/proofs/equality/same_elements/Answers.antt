@@ -1,10 +1,7 @@
 -- The proof of paths::equality::same_elements, by answers to its goals: the trees before j are the same.
-use Rattle.std.proofs.Common.{arith, rules, ◌≡◌, sym, ◌∙◌, ℕ, ◌-◌, ◌≤◌, ◌<◌, get_or}
-use borrow.Author.Tests.{not-true, not-false}
-use Rattle.spec_trees.specs.Tree.{bare_void}
-use Rattle.spec_trees.specs.Bytes.{tree_bytes}
+use Rattle.std.proofs.Common.{arith, sym, ◌∙◌, ◌-◌}
 use Rattle.spec_stages.specs.Paths.{apply}
-use Rattle.paths.specs.Walk.{given, TellsBoth}
+use Rattle.paths.specs.Walk.{given}
 use Rattle.paths.specs.EqualLaws.{elements_count, elements_other, elements_more, elements_all}
 use Rattle.paths.proofs.equality.same_elements.Goals as goal
 

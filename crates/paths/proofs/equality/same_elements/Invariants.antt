@@ -1,10 +1,7 @@
-use Rattle.std.proofs.Common.{arith, rules, ◌≡◌, sym, ◌∙◌, ℕ, ◌-◌, ◌≤◌, ◌<◌, get_or}
-use borrow.Author.Tests.{not-true, not-false}
+use Rattle.std.proofs.Common.{◌≡◌, ℕ, ◌-◌, ◌≤◌, ◌<◌, get_or}
 use Rattle.spec_trees.specs.Tree.{bare_void}
 use Rattle.spec_trees.specs.Bytes.{tree_bytes}
-use Rattle.spec_stages.specs.Paths.{apply}
 use Rattle.paths.specs.Walk.{given, TellsBoth}
-use Rattle.paths.specs.EqualLaws.{elements_count, elements_other, elements_more, elements_all}
 use Rattle.paths.proofs.equality.same_elements.Given as goal
 
 abbrev pub invariant-loop-j : goal.invariant-loop-j

@@ -1,5 +1,5 @@
 -- The proof of paths::equality::same_found, by answers to its goals.
-use Rattle.std.proofs.Common.{arith, rules}
+use Rattle.std.proofs.Common.{arith}
 use Rattle.paths.specs.EqualLaws.{pieces_missing, pieces_other, pieces_same}
 use Rattle.paths.proofs.equality.same_found.Goals as goal
 

@@ -1,5 +1,5 @@
 -- The proof of paths::equality::same_keys, by answers to its goals.
-use Rattle.std.proofs.Common.{arith, rules}
+use Rattle.std.proofs.Common.{arith}
 use Rattle.paths.specs.WalkLaws.{walk_room}
 use Rattle.paths.proofs.equality.same_keys.Goals as goal
 

@@ -1,5 +1,5 @@
 -- The proof of paths::equality::same_nth, by answers to its goals.
-use Rattle.std.proofs.Common.{arith, rules}
+use Rattle.std.proofs.Common.{arith}
 use Rattle.paths.specs.ElementLaws.{element_span}
 use Rattle.paths.specs.EqualLaws.{nth_same, nth_fewer}
 use Rattle.paths.proofs.equality.same_nth.Goals as goal

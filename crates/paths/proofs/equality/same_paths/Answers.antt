@@ -1,5 +1,5 @@
 -- The proof of paths::equality::same_paths, by answers to its goals.
-use Rattle.std.proofs.Common.{arith, ◌∙◌, rules}
+use Rattle.std.proofs.Common.{arith, ◌∙◌}
 use Rattle.spec_stages.specs.Paths.{apply}
 use Rattle.paths.specs.WalkLaws.{walk_room}
 use Rattle.paths.specs.SameLaws.{same_turned}

@@ -1,5 +1,4 @@
 -- The proof of paths::equality::same_pieces, by answers to its goals.
-use Rattle.std.proofs.Common.{rules, arith}
 use Rattle.paths.specs.SameLaws.{apply_allowed}
 use Rattle.paths.specs.EqualLaws.{walk_found}
 use Rattle.paths.proofs.equality.same_pieces.Goals as goal

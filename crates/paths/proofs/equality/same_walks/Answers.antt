@@ -1,6 +1,6 @@
 -- The proof of paths::equality::same_walks, by answers to its goals.
-use Rattle.std.proofs.Common.{sym, ap, ◌∙◌, not, rules, arith}
-use borrow.Author.Tests.{not-true, not-false}
+use Rattle.std.proofs.Common.{sym, ap, ◌∙◌, not}
+use borrow.Author.Tests.{not-false}
 use Rattle.spec_stages.specs.Paths.{apply}
 use Rattle.paths.specs.SameLaws.{apply_allowed, absent_same, absent_other, present_same}
 use Rattle.paths.proofs.equality.same_walks.Goals as goal

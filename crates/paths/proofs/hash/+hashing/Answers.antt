@@ -1,12 +1,10 @@
 -- The proof of the cycle of paths::hash that folds what a path gives, by answers to its goals: what is right for the
 -- trees from `at` on, with the number so far, is right for all.
-use Rattle.std.proofs.Common.{arith, rules, ◌≡◌, refl, ◌∙◌, ℕ, ◌+◌, ◌*◌, ◌-◌, ◌<◌}
-use Rattle.format.specs.Stand.{trees_bytes}
-use Rattle.areas.specs.Area.{span}
+use Rattle.std.proofs.Common.{arith, ◌≡◌, refl, ◌∙◌, ◌-◌}
 use Rattle.queries.specs.StepLaws.{steps_fewer}
-use Rattle.paths.specs.Walk.{given, Walk, TellsJoined}
+use Rattle.paths.specs.Walk.{given}
 use Rattle.paths.specs.WalkLaws.{tells_end, tells_missing, tells_part, over_given, walk_inside, walk_room, walk_part, walk_first, walk_rest, walk_places, step_left}
-use Rattle.paths.specs.Hash.{hash_limit, trees_hash}
+use Rattle.paths.specs.Hash.{trees_hash}
 use Rattle.paths.specs.HashLaws.{hash_one, hash_none, hash_end, hash_next}
 use Rattle.paths.proofs.hash.+hashing.Goals as goal
 

@@ -1,11 +1,8 @@
-use Rattle.std.proofs.Common.{arith, rules, ◌≡◌, refl, ◌∙◌, ℕ, ◌+◌, ◌*◌, ◌-◌, ◌<◌}
+use Rattle.std.proofs.Common.{◌≡◌, ℕ, ◌+◌, ◌*◌, ◌-◌, ◌<◌}
 use Rattle.format.specs.Stand.{trees_bytes}
 use Rattle.areas.specs.Area.{span}
-use Rattle.queries.specs.StepLaws.{steps_fewer}
 use Rattle.paths.specs.Walk.{given, Walk, TellsJoined}
-use Rattle.paths.specs.WalkLaws.{tells_end, tells_missing, tells_part, over_given, walk_inside, walk_room, walk_part, walk_first, walk_rest, walk_places, step_left}
 use Rattle.paths.specs.Hash.{hash_limit, trees_hash}
-use Rattle.paths.specs.HashLaws.{hash_one, hash_none, hash_end, hash_next}
 use Rattle.paths.proofs.hash.+hashing.Given as goal
 
 abbrev pub decreases-hash_over : goal.decreases-hash_over

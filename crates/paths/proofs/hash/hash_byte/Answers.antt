@@ -1,5 +1,5 @@
 -- The proof of paths::hash::hash_byte, by answers to its goals.
-use Rattle.std.proofs.Common.{arith, ap, ◌+◌, ◌*◌, ◌%◌, rules}
+use Rattle.std.proofs.Common.{arith, ap, ◌+◌, ◌*◌, ◌%◌}
 use Rattle.paths.specs.Hash.{hash_limit, hash_times, step_hash}
 use Rattle.paths.proofs.hash.hash_byte.Goals as goal
 

@@ -1,6 +1,6 @@
 -- The proof of paths::hash::hash_path, by answers to its goals.
-use Rattle.std.proofs.Common.{sym, ◌∙◌, rules, arith}
-use borrow.Author.Tests.{not-true, not-false}
+use Rattle.std.proofs.Common.{sym, ◌∙◌}
+use borrow.Author.Tests.{not-false}
 use Rattle.spec_stages.specs.Paths.{apply}
 use Rattle.paths.specs.WalkLaws.{walk_room}
 use Rattle.paths.specs.HashLaws.{given_absent, given_present, found_absent, found_piece}

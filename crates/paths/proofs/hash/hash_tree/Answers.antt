@@ -1,8 +1,6 @@
 -- The proof of paths::hash::hash_tree, by answers to its goals: with the bytes from `at` on the number is that with all
 -- the last bytes.
-use Rattle.std.proofs.Common.{arith, rules, ◌≡◌, refl, ◌∙◌, ◌-◌, ◌≤◌, ◌<◌}
-use lib.Seq.{slice}
-use Rattle.paths.specs.Hash.{hash_limit, bytes_hash}
+use Rattle.std.proofs.Common.{arith, refl, ◌∙◌, ◌-◌}
 use Rattle.paths.specs.HashLaws.{bytes_end, bytes_next, tree_last}
 use Rattle.paths.specs.ComparedLaws.{holds_span}
 use Rattle.paths.proofs.hash.hash_tree.Goals as goal

@@ -1,8 +1,6 @@
-use Rattle.std.proofs.Common.{arith, rules, ◌≡◌, refl, ◌∙◌, ◌-◌, ◌≤◌, ◌<◌}
+use Rattle.std.proofs.Common.{◌≡◌, ◌-◌, ◌≤◌, ◌<◌}
 use lib.Seq.{slice}
 use Rattle.paths.specs.Hash.{hash_limit, bytes_hash}
-use Rattle.paths.specs.HashLaws.{bytes_end, bytes_next, tree_last}
-use Rattle.paths.specs.ComparedLaws.{holds_span}
 use Rattle.paths.proofs.hash.hash_tree.Given as goal
 
 abbrev pub invariant-loop-at : goal.invariant-loop-at

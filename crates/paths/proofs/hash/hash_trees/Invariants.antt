@@ -1,9 +1,7 @@
-use Rattle.std.proofs.Common.{arith, refl, ℕ, ◌-◌, ◌<◌, rules}
+use Rattle.std.proofs.Common.{ℕ, ◌-◌, ◌<◌}
 use Rattle.spec_trees.specs.Tree.{list}
 use Rattle.format.specs.Stand.{trees_bytes, Holds, Says}
-use Rattle.format.specs.StandLaws.{trees_places, holds_first, holds_rest}
 use Rattle.paths.specs.Hash.{hash_limit, trees_hash}
-use Rattle.paths.specs.HashLaws.{trees_end, trees_next}
 use Rattle.paths.proofs.hash.hash_trees.Given as goal
 
 abbrev pub invariant-loop-at : goal.invariant-loop-at

@@ -1,11 +1,9 @@
 -- The proof of the cycle of stages::path that counts what a path gives, by answers to its goals: n trees were passed
 -- before `at`, no more than bytes.
-use Rattle.std.proofs.Common.{arith, rules, ◌≡◌, refl, ◌∙◌, ℕ, ◌+◌, ◌*◌, ◌-◌, ◌≤◌, length, ◌<◌}
-use Rattle.format.specs.Stand.{trees_bytes}
+use Rattle.std.proofs.Common.{arith, ◌≡◌, refl, ◌∙◌, ◌-◌, length}
 use Rattle.format.specs.StandLaws.{tree_places}
-use Rattle.areas.specs.Area.{span}
 use Rattle.queries.specs.StepLaws.{steps_fewer}
-use Rattle.paths.specs.Walk.{given, Walk, TellsJoined}
+use Rattle.paths.specs.Walk.{given}
 use Rattle.paths.specs.WalkLaws.{tells_end, tells_missing, tells_part, over_given, walk_inside, walk_room, walk_part, part_places, walk_first, walk_rest, walk_places, step_left}
 use Rattle.paths.specs.ElementLaws.{count_one, count_none, count_end, count_next}
 use Rattle.paths.proofs.path.+counting.Goals as goal

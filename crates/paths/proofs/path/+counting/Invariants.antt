@@ -1,11 +1,7 @@
-use Rattle.std.proofs.Common.{arith, rules, ◌≡◌, refl, ◌∙◌, ℕ, ◌+◌, ◌*◌, ◌-◌, ◌≤◌, length, ◌<◌}
+use Rattle.std.proofs.Common.{◌≡◌, ℕ, ◌+◌, ◌*◌, ◌-◌, ◌≤◌, length}
 use Rattle.format.specs.Stand.{trees_bytes}
-use Rattle.format.specs.StandLaws.{tree_places}
 use Rattle.areas.specs.Area.{span}
-use Rattle.queries.specs.StepLaws.{steps_fewer}
 use Rattle.paths.specs.Walk.{given, Walk, TellsJoined}
-use Rattle.paths.specs.WalkLaws.{tells_end, tells_missing, tells_part, over_given, walk_inside, walk_room, walk_part, part_places, walk_first, walk_rest, walk_places, step_left}
-use Rattle.paths.specs.ElementLaws.{count_one, count_none, count_end, count_next}
 use Rattle.paths.proofs.path.+counting.Given as goal
 
 abbrev pub decreases-count : goal.decreases-count

@@ -1,12 +1,9 @@
 -- The proof of the cycle of stages::path that finds tree j of what a path gives, by answers to its goals: what is
 -- right for the trees from `at` on and what is left of j is right for all and j.
-use Rattle.std.proofs.Common.{arith, rules, refl, ◌∙◌, ◌+◌, ◌*◌, ◌-◌, ℕ, ◌<◌}
-use Rattle.format.specs.Stand.{trees_bytes}
-use Rattle.paths.specs.declared.path.Element.{Element}
+use Rattle.std.proofs.Common.{arith, refl, ◌∙◌, ◌-◌}
 use Rattle.paths.specs.declared.path.Element.TheVariants.{Part, Fewer}
-use Rattle.areas.specs.Area.{span}
 use Rattle.queries.specs.StepLaws.{steps_fewer}
-use Rattle.paths.specs.Walk.{given, Walk, TellsJoined, ElementIs}
+use Rattle.paths.specs.Walk.{given, ElementIs}
 use Rattle.paths.specs.WalkLaws.{tells_end, tells_missing, tells_part, over_given, walk_inside, walk_room, walk_part, part_places, walk_first, walk_rest, walk_places, step_left}
 use Rattle.paths.specs.ElementLaws.{element_one, element_past, element_none, element_within, element_end, element_here, element_next}
 use Rattle.paths.proofs.path.+finding.Goals as goal

@@ -1,12 +1,8 @@
-use Rattle.std.proofs.Common.{arith, rules, refl, ◌∙◌, ◌+◌, ◌*◌, ◌-◌, ℕ, ◌<◌}
+use Rattle.std.proofs.Common.{◌+◌, ◌*◌, ◌-◌}
 use Rattle.format.specs.Stand.{trees_bytes}
 use Rattle.paths.specs.declared.path.Element.{Element}
-use Rattle.paths.specs.declared.path.Element.TheVariants.{Part, Fewer}
 use Rattle.areas.specs.Area.{span}
-use Rattle.queries.specs.StepLaws.{steps_fewer}
 use Rattle.paths.specs.Walk.{given, Walk, TellsJoined, ElementIs}
-use Rattle.paths.specs.WalkLaws.{tells_end, tells_missing, tells_part, over_given, walk_inside, walk_room, walk_part, part_places, walk_first, walk_rest, walk_places, step_left}
-use Rattle.paths.specs.ElementLaws.{element_one, element_past, element_none, element_within, element_end, element_here, element_next}
 use Rattle.paths.proofs.path.+finding.Given as goal
 
 abbrev pub decreases-nth : goal.decreases-nth

@@ -1,13 +1,11 @@
 -- The proof of the cycle of stages::path that looks for what a path gives in other bytes, by answers to its goals:
 -- what is right for the trees from `from` on, looked for from n on, is right for all.
-use Rattle.std.proofs.Common.{arith, rules, refl, ◌∙◌, ◌+◌, ◌*◌, ◌-◌, ◌≤◌, length, ℕ, ◌<◌}
+use Rattle.std.proofs.Common.{arith, refl, ◌∙◌, ◌-◌}
 use Rattle.format.specs.Stand.{trees_bytes}
-use Rattle.paths.specs.declared.path.Compared.{Compared}
 use Rattle.paths.specs.declared.path.Compared.TheVariants.{At, Differs}
 use Rattle.spec_trees.specs.Tree.{trees}
-use Rattle.areas.specs.Area.{span}
 use Rattle.queries.specs.StepLaws.{steps_fewer}
-use Rattle.paths.specs.Walk.{given_bytes, Walk, TellsJoined, ComparedIs}
+use Rattle.paths.specs.Walk.{given_bytes, ComparedIs}
 use Rattle.paths.specs.WalkLaws.{tells_end, tells_missing, tells_part, over_given, walk_inside, walk_room, walk_part, walk_first, walk_rest, walk_places, step_left}
 use Rattle.paths.specs.ComparedLaws.{compared_one, compared_none, compared_end, compared_here, compared_on, compared_room, holds_span}
 use Rattle.paths.proofs.path.+matching.Goals as goal

@@ -1,13 +1,8 @@
-use Rattle.std.proofs.Common.{arith, rules, refl, ◌∙◌, ◌+◌, ◌*◌, ◌-◌, ◌≤◌, length, ℕ, ◌<◌}
+use Rattle.std.proofs.Common.{◌+◌, ◌*◌, ◌-◌, ◌≤◌, length}
 use Rattle.format.specs.Stand.{trees_bytes}
 use Rattle.paths.specs.declared.path.Compared.{Compared}
-use Rattle.paths.specs.declared.path.Compared.TheVariants.{At, Differs}
-use Rattle.spec_trees.specs.Tree.{trees}
 use Rattle.areas.specs.Area.{span}
-use Rattle.queries.specs.StepLaws.{steps_fewer}
 use Rattle.paths.specs.Walk.{given_bytes, Walk, TellsJoined, ComparedIs}
-use Rattle.paths.specs.WalkLaws.{tells_end, tells_missing, tells_part, over_given, walk_inside, walk_room, walk_part, walk_first, walk_rest, walk_places, step_left}
-use Rattle.paths.specs.ComparedLaws.{compared_one, compared_none, compared_end, compared_here, compared_on, compared_room, holds_span}
 use Rattle.paths.proofs.path.+matching.Given as goal
 
 abbrev pub decreases-matches_at : goal.decreases-matches_at

@@ -1,11 +1,8 @@
 -- The proof of the cycle of stages::path that says whether a path is present, by answers to its goals: each step
 -- takes one from the steps that are left, and what is right for the trees from `at` on is right for all.
-use Rattle.std.proofs.Common.{arith, rules, ◌≡◌, refl, ◌∙◌, Bool, true, false, ◌+◌, ◌*◌, ◌-◌, ℕ, ◌<◌}
-use Rattle.format.specs.Stand.{trees_bytes}
+use Rattle.std.proofs.Common.{arith, ◌≡◌, refl, ◌∙◌, true, false, ◌-◌}
 use Rattle.spec_stages.specs.Paths as paths
-use Rattle.areas.specs.Area.{span}
 use Rattle.queries.specs.StepLaws.{steps_fewer}
-use Rattle.paths.specs.Walk.{Walk, TellsJoined}
 use Rattle.paths.specs.WalkLaws.{tells_end, tells_missing, tells_part, over_none, over_some, joined_end, walk_inside, walk_room, walk_part, walk_first, walk_rest, walk_places, step_left, present_some, present_none, present_here, present_next}
 use Rattle.paths.proofs.path.+presence.Goals as goal
 

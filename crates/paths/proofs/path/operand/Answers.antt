@@ -1,5 +1,5 @@
 -- The proof of paths::path::operand, by answers to its goals.
-use Rattle.std.proofs.Common.{arith, subst, cond, rules}
+use Rattle.std.proofs.Common.{arith, subst, cond}
 use Rattle.areas.specs.Area.{IsAt}
 use Rattle.format.specs.Stand.{trees_bytes}
 use Rattle.queries.specs.Places.{HoldsAt}

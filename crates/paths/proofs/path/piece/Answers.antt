@@ -1,5 +1,5 @@
 -- The proof of paths::path::piece, by answers to its goals.
-use Rattle.std.proofs.Common.{sym, ◌∙◌, arith, rules}
+use Rattle.std.proofs.Common.{sym, ◌∙◌}
 use Rattle.paths.specs.WalkLaws.{step_left, walk_inside, walk_room}
 use Rattle.paths.specs.OperandLaws.{piece_whole, piece_under}
 use Rattle.paths.proofs.path.piece.Goals as goal

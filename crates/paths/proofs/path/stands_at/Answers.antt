@@ -1,5 +1,5 @@
 -- The proof of paths::path::stands_at, by answers to its goals.
-use Rattle.std.proofs.Common.{arith, rules}
+use Rattle.std.proofs.Common.{arith}
 use Rattle.paths.specs.ComparedLaws.{stands_short, stands_same, stands_other}
 use Rattle.paths.proofs.path.stands_at.Goals as goal
 

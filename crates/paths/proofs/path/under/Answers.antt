@@ -1,5 +1,5 @@
 -- The proof of paths::path::under, by answers to its goals.
-use Rattle.std.proofs.Common.{arith, refl, rules}
+use Rattle.std.proofs.Common.{arith, refl}
 use Rattle.format.specs.StandLaws.{tree_places, holds_labels}
 use Rattle.paths.specs.WalkLaws.{under_found}
 use Rattle.paths.proofs.path.under.Goals as goal

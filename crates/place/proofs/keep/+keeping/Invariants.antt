@@ -1,14 +1,9 @@
-use Rattle.std.proofs.Common.{arith, rules, ◌≡◌, refl, ◌∙◌, List, ℕ, ◌+◌, ◌*◌, ◌-◌, length, ◌<◌}
+use Rattle.std.proofs.Common.{◌≡◌, List, ℕ, ◌+◌, ◌*◌, ◌-◌, length}
 use Rattle.areas.specs.declared.area.Out.{Out}
 use Rattle.format.specs.Stand.{trees_bytes}
-use Rattle.format.specs.StandLaws.{heads_most, trees_places}
 use Rattle.areas.specs.Area.{span}
-use Rattle.queries.specs.StepLaws.{steps_fewer}
 use Rattle.place.specs.Writers.{WriterReady}
 use Rattle.place.specs.Kept.{KeepsEach}
-use Rattle.place.specs.WriterLaws.{along_room, along_inside, along_small, step_before, ready_places, ready_labels, ready_array, ready_first}
-use Rattle.place.specs.PlaceLaws.{behind_at_lem}
-use Rattle.place.specs.KeptLaws.{keep_end, keep_missing, keep_no_room, keep_part, kept_behind, kept_rest, each_end, each_fail, each_next}
 use Rattle.place.proofs.keep.+keeping.Given as goal
 
 abbrev pub decreases-keep : goal.decreases-keep

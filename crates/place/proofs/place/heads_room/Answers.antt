@@ -1,6 +1,5 @@
 -- The proof of place::place::heads_room, by answers to its goals: the room of the steps before i.
-use Rattle.std.proofs.Common.{arith, rules, ◌≡◌, refl, sym, ap, ◌∙◌, ◌+◌, ◌-◌, ◌≤◌}
-use Rattle.queries.specs.Steps.{step_count}
+use Rattle.std.proofs.Common.{arith, refl, sym, ap, ◌∙◌, ◌+◌, ◌-◌}
 use Rattle.place.specs.Place.{room_at}
 use Rattle.place.specs.WriterLaws.{along_room, along_inside}
 use Rattle.place.specs.PlaceLaws.{room_none, room_before, room_small}

@@ -1,12 +1,7 @@
 -- The proof of place::place::place_heads, by answers to its goals: from step i on all heads are stored, from `to` on.
-use Rattle.std.proofs.Common.{arith, rules, ◌≡◌, refl, sym, ap, ◌∙◌, ◌+◌, ◌-◌, ◌≤◌, length, drop}
-use Rattle.areas.specs.Area.{IsAt}
-use Rattle.format.specs.Stand.{Behind, Headed}
+use Rattle.std.proofs.Common.{arith, refl, sym, ap, ◌∙◌, ◌+◌, ◌-◌}
 use Rattle.format.specs.StandLaws.{heads_most}
-use Rattle.spec_queries.specs.Query.{Path}
-use Rattle.queries.specs.Places.{path_bytes}
-use Rattle.queries.specs.Steps.{step_count}
-use Rattle.place.specs.Place.{place_bytes, place_room, room_at}
+use Rattle.place.specs.Place.{room_at}
 use Rattle.place.specs.WriterLaws.{along_room, along_inside, along_small}
 use Rattle.place.specs.PlaceLaws.{room_none, room_before, behind_at_lem, behind_wrapped, place_last, place_next, place_first}
 use Rattle.place.proofs.place.place_heads.Goals as goal

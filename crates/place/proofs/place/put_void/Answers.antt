@@ -1,5 +1,4 @@
 -- The proof of place::place::put_void, by answers to its goals.
-use Rattle.std.proofs.Common.{rules, arith}
 use Rattle.place.specs.PlaceLaws.{void_wrote}
 use Rattle.place.proofs.place.put_void.Goals as goal
 

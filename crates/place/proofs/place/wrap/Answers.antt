@@ -1,5 +1,5 @@
 -- The proof of place::place::wrap, by answers to its goals.
-use Rattle.std.proofs.Common.{arith, sym, ◌∙◌, rules}
+use Rattle.std.proofs.Common.{arith, sym, ◌∙◌}
 use Rattle.place.specs.PlaceLaws.{headed_under, behind_entry, large_entry}
 use Rattle.place.proofs.place.wrap.Goals as goal
 

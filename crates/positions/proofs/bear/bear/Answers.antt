@@ -1,6 +1,6 @@
 -- The proof of positions::bear::bear, by answers to its goals: what is right for the trees that are left is right for
 -- all.
-use Rattle.std.proofs.Common.{arith, refl, subst, ◌+◌, ◌-◌, rules}
+use Rattle.std.proofs.Common.{arith, refl, subst, ◌+◌, ◌-◌}
 use Rattle.areas.specs.Area.{Wrote}
 use Rattle.areas.specs.Number.{two_bytes}
 use Rattle.areas.specs.declared.area.Out.TheVariants.{At}

@@ -1,7 +1,4 @@
-use Rattle.std.proofs.Common.{arith, refl, subst, ◌+◌, ◌-◌, rules}
-use Rattle.areas.specs.Area.{Wrote}
-use Rattle.areas.specs.Number.{two_bytes}
-use Rattle.areas.specs.declared.area.Out.TheVariants.{At}
+use Rattle.std.proofs.Common.{◌-◌}
 use Rattle.positions.specs.BearingLaws as law
 use Rattle.positions.proofs.bear.bear.Given as goal
 

@@ -1,5 +1,5 @@
 -- The proof of positions::bear::mark, by answers to its goals.
-use Rattle.std.proofs.Common.{arith, rules}
+use Rattle.std.proofs.Common.{arith}
 use Rattle.positions.specs.BearingLaws.{marks_all}
 use Rattle.positions.proofs.bear.mark.Goals as goal
 

@@ -1,5 +1,5 @@
 -- The proof of positions::bear::number, by answers to its goals.
-use Rattle.std.proofs.Common.{arith, rules}
+use Rattle.std.proofs.Common.{arith}
 use Rattle.positions.specs.BearingLaws.{numbers_all}
 use Rattle.positions.proofs.bear.number.Goals as goal
 

@@ -1,5 +1,5 @@
 -- The proof of positions::bear::position_at, by answers to its goals.
-use Rattle.std.proofs.Common.{ap, ◌∙◌, rules, arith}
+use Rattle.std.proofs.Common.{ap, ◌∙◌}
 use Rattle.areas.specs.Number.{two_at}
 use Rattle.positions.proofs.bear.position_at.Goals as goal
 

@@ -1,5 +1,5 @@
 -- The proof of positions::entries::clear_entries, by answers to its goals: the first i entries are zero.
-use Rattle.std.proofs.Common.{arith, rules, ◌≡◌, refl, ap, ◌∙◌, ◌++◌, ◌-◌, ◌≤◌, length, drop, set, replicate, length-set}
+use Rattle.std.proofs.Common.{arith, refl, ap, ◌∙◌, ◌-◌, set, length-set}
 use borrow.Author.Fill.{fill_more}
 use Rattle.areas.specs.AreaLaws.{cleared}
 use Rattle.positions.proofs.entries.clear_entries.Goals as goal

@@ -1,6 +1,4 @@
-use Rattle.std.proofs.Common.{arith, rules, ◌≡◌, refl, ap, ◌∙◌, ◌++◌, ◌-◌, ◌≤◌, length, drop, set, replicate, length-set}
-use borrow.Author.Fill.{fill_more}
-use Rattle.areas.specs.AreaLaws.{cleared}
+use Rattle.std.proofs.Common.{◌≡◌, ◌++◌, ◌-◌, ◌≤◌, length, drop, replicate}
 use Rattle.positions.proofs.entries.clear_entries.Given as goal
 
 abbrev pub invariant-loop-i : goal.invariant-loop-i

@@ -1,5 +1,4 @@
-use Rattle.std.proofs.Common.{rules, refl, ◌-◌, arith}
-use Rattle.positions.specs.BearingLaws.{standing_places}
+use Rattle.std.proofs.Common.{◌-◌}
 use Rattle.positions.specs.EntriesLaws as law
 use Rattle.positions.proofs.entries.write_entries.Given as goal
 

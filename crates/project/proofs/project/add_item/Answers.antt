@@ -1,5 +1,4 @@
 -- The proof of project::project::add_item, by answers to its goals.
-use Rattle.std.proofs.Common.{rules, arith}
 use Rattle.project.specs.ProjectLaws.{item_ready, item_adding, item_added}
 use Rattle.project.proofs.project.add_item.Goals as goal
 

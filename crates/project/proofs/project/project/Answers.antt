@@ -1,12 +1,7 @@
 -- The proof of project::project::project, by answers to its goals: what is built from the item at `from` on, onto the
 -- tree so far, is what is built from all.
-use Rattle.std.proofs.Common.{arith, rules, ◌≡◌, refl, ◌∙◌, List, ℕ, ◌-◌, length}
+use Rattle.std.proofs.Common.{arith, refl, ◌∙◌, ◌-◌}
 use Rattle.areas.specs.declared.area.Out.{Out}
-use Rattle.spec_trees.specs.Lists.{All}
-use Rattle.spec_queries.specs.Rules.{OkI}
-use Rattle.areas.specs.Area.{span}
-use Rattle.queries.specs.Places.{items_bytes}
-use Rattle.project.specs.Project.{Building, BuildsFrom}
 use Rattle.project.specs.ProjectLaws.{project_begun, project_from, items_done, items_places, items_first, items_rest, items_stop, items_next}
 use Rattle.project.proofs.project.project.Goals as goal
 

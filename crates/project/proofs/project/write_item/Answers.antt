@@ -1,5 +1,4 @@
 -- The proof of project::project::write_item, by answers to its goals.
-use Rattle.std.proofs.Common.{rules, arith}
 use Rattle.project.specs.ProjectLaws.{keep_ready, place_ready, item_kept, item_placed}
 use Rattle.project.proofs.project.write_item.Goals as goal
 

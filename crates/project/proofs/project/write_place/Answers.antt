@@ -1,5 +1,5 @@
 -- The proof of project::project::write_place, by answers to its goals.
-use Rattle.std.proofs.Common.{arith, rules}
+use Rattle.std.proofs.Common.{arith}
 use Rattle.build.specs.MadeLaws.{target_along, target_room}
 use Rattle.project.specs.ProjectLaws.{place_data, place_value_ready, place_written}
 use Rattle.project.proofs.project.write_place.Goals as goal

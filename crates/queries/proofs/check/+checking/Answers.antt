@@ -1,10 +1,10 @@
 -- The cycle of the check: the fields inside a field, one that holds fields, a criterion or data. They stand strictly
 -- inside, so content left falls from one field to those inside it; between two such steps the functions have a rank.
-use Rattle.std.proofs.Common.{rules, arith, ◌≡◌, sym, ap, ◌∙◌, inl, inr, ℕ, ◌≤◌, ◌+◌, ◌*◌, ◌-◌, leb, ◌<◌}
+use Rattle.std.proofs.Common.{rules, arith, sym, ap, ◌∙◌, inl, inr, ℕ, ◌+◌, ◌-◌, leb}
 use lib.Seq.{slice}
 use Rattle.areas.specs.Area.{span}
 use Rattle.queries.specs.declared.table.Rule.{Rule}
-use Rattle.queries.specs.Accept.{field_ok, content_ok, by_rule, rest_ok}
+use Rattle.queries.specs.Accept.{field_ok, content_ok}
 use Rattle.queries.specs.TableLaws.{criterion_field, data_field, criterion_deep, data_deep, criterion_rule, data_rule, other_rule}
 use Rattle.queries.specs.CheckLaws.{children_end, is_behind, is_inside, is_bad, held_good, held_bad}
 use Rattle.queries.proofs.check.+checking.Goals as goal

@@ -1,10 +1,6 @@
-use Rattle.std.proofs.Common.{rules, arith, ◌≡◌, sym, ap, ◌∙◌, ⊎_elim, inl, inr, ℕ, ◌≤◌, ◌+◌, ◌*◌, ◌-◌, leb, ◌<◌}
+use Rattle.std.proofs.Common.{◌≡◌, ◌≤◌, ◌+◌, ◌*◌, ◌-◌}
 use lib.Seq.{slice}
-use Rattle.areas.specs.Area.{span}
-use Rattle.queries.specs.declared.table.Rule.{Rule}
-use Rattle.queries.specs.Accept.{field_ok, content_ok, by_rule, rest_ok}
-use Rattle.queries.specs.TableLaws.{criterion_field, data_field, criterion_deep, data_deep, criterion_rule, data_rule, other_rule}
-use Rattle.queries.specs.CheckLaws.{children_end, is_behind, is_inside, is_bad, held_good, held_bad}
+use Rattle.queries.specs.Accept.{by_rule, rest_ok}
 use Rattle.queries.proofs.check.+checking.Given as goal
 
 abbrev pub decreases-check_criterion : goal.decreases-check_criterion

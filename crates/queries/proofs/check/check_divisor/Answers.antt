@@ -1,5 +1,5 @@
 -- `check::check_divisor`: two bytes, and the number that they are.
-use Rattle.std.proofs.Common.{arith, sym, rules}
+use Rattle.std.proofs.Common.{sym}
 use Rattle.queries.specs.CheckLaws.{divisor_size, divisor_low, divisor_high}
 use Rattle.queries.proofs.check.check_divisor.Goals as goal
 

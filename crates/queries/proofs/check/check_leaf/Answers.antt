@@ -1,5 +1,5 @@
 -- `check::check_leaf`: by the tag.
-use Rattle.std.proofs.Common.{sym, ◌∙◌, rules, arith}
+use Rattle.std.proofs.Common.{sym, ◌∙◌, arith}
 use lib.Seq.{slice}
 use Rattle.queries.specs.TableLaws.{not_leaf}
 use Rattle.queries.specs.CheckLaws.{field_array, field_path, field_divisor, leaf_tells}

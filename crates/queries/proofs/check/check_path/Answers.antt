@@ -1,7 +1,5 @@
 -- `check::check_path`: what holds of the steps from i on holds of all.
-use Rattle.std.proofs.Common.{rules, arith, ◌≡◌, sym, ◌∙◌, ap, ◌+◌, ◌-◌, ◌≤◌}
-use lib.Seq.{slice}
-use Rattle.spec_trees.specs.Lists.{all}
+use Rattle.std.proofs.Common.{arith, sym, ◌∙◌, ap, ◌-◌}
 use Rattle.spec_trees.specs.Tree.{is_label}
 use Rattle.queries.specs.CheckLaws.{path_long, path_short, path_start, path_next, path_bad, path_end, steps_number}
 use Rattle.queries.proofs.check.check_path.Goals as goal

@@ -1,8 +1,7 @@
-use Rattle.std.proofs.Common.{rules, arith, ◌≡◌, sym, ◌∙◌, ap, ◌+◌, ◌-◌, ◌≤◌}
+use Rattle.std.proofs.Common.{◌≡◌, ◌+◌, ◌-◌, ◌≤◌}
 use lib.Seq.{slice}
 use Rattle.spec_trees.specs.Lists.{all}
 use Rattle.spec_trees.specs.Tree.{is_label}
-use Rattle.queries.specs.CheckLaws.{path_long, path_short, path_start, path_next, path_bad, path_end, steps_number}
 use Rattle.queries.proofs.check.check_path.Given as goal
 
 abbrev pub invariant-loop-i : goal.invariant-loop-i

@@ -1,5 +1,5 @@
 -- `check::check_query_field`: the tag, then the stages inside.
-use Rattle.std.proofs.Common.{arith, sym, ◌∙◌, inl, rules}
+use Rattle.std.proofs.Common.{arith, sym, ◌∙◌, inl}
 use Rattle.spec_trees.specs.Limits.{nest_max}
 use Rattle.queries.specs.TableLaws.{other_rule, not_leaf}
 use Rattle.queries.specs.CheckLaws.{query_field, query_tag}

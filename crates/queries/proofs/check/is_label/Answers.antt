@@ -1,5 +1,5 @@
 -- `check::is_label`: 1 to its limit.
-use Rattle.std.proofs.Common.{refl, le-leb, arith, rules}
+use Rattle.std.proofs.Common.{refl, le-leb}
 use Rattle.spec_trees.specs.Tree.{is_label}
 use borrow.Author.Tests.{lt-leb}
 use Rattle.queries.proofs.check.is_label.Goals as goal

@@ -1,5 +1,5 @@
 -- The proof of queries::data::data_at, by answers to its goals: by the tag.
-use Rattle.std.proofs.Common.{arith, refl, rules}
+use Rattle.std.proofs.Common.{arith, refl}
 use Rattle.spec_queries.specs.Bytes.{data_f}
 use Rattle.queries.specs.PartLaws.{holds_room}
 use Rattle.queries.specs.PlaceLaws.{data_reads}

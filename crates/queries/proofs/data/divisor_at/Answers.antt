@@ -1,5 +1,5 @@
 -- `data::divisor_at`: the two bytes behind the head.
-use Rattle.std.proofs.Common.{◌∙◌, rules, arith}
+use Rattle.std.proofs.Common.{◌∙◌}
 use Rattle.areas.specs.NumberLaws.{two_behind}
 use Rattle.queries.proofs.data.divisor_at.Goals as goal
 

@@ -1,5 +1,5 @@
 -- The proof of queries::data::several_at, by answers to its goals: a choice, or else a reduced.
-use Rattle.std.proofs.Common.{arith, refl, rules}
+use Rattle.std.proofs.Common.{arith, refl}
 use Rattle.spec_queries.specs.Bytes.{data_f}
 use Rattle.queries.specs.PartLaws.{holds_room}
 use Rattle.queries.specs.PlaceLaws.{data_reads, data_reads_reduced, data_room}

@@ -1,5 +1,5 @@
 -- The proof of queries::item::is_total, by answers to its goals.
-use Rattle.std.proofs.Common.{arith, rules}
+use Rattle.std.proofs.Common.{arith}
 use Rattle.spec_queries.specs.Bytes.{pair_f}
 use Rattle.queries.specs.PartLaws.{holds_room}
 use Rattle.queries.specs.PlaceLaws.{total_reads}

@@ -1,5 +1,5 @@
 -- The proof of queries::item::item_at, by answers to its goals: a keep, or else a place.
-use Rattle.std.proofs.Common.{arith, refl, rules}
+use Rattle.std.proofs.Common.{arith, refl}
 use Rattle.spec_queries.specs.Bytes.{item_f}
 use Rattle.queries.specs.PartLaws.{holds_room}
 use Rattle.queries.specs.PlaceLaws.{item_reads, item_reads_place, item_room}

@@ -1,5 +1,5 @@
 -- The proof of queries::item::pair_at, by answers to its goals.
-use Rattle.std.proofs.Common.{arith, refl, rules}
+use Rattle.std.proofs.Common.{arith, refl}
 use Rattle.queries.specs.PlaceLaws.{pair_reads, pair_room}
 use Rattle.queries.proofs.item.pair_at.Goals as goal
 

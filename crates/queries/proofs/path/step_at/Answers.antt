@@ -1,5 +1,4 @@
 -- The proof of queries::path::step_at, by answers to its goals.
-use Rattle.std.proofs.Common.{rules, arith}
 use Rattle.queries.specs.Steps.{step_at}
 use Rattle.queries.proofs.path.step_at.Goals as goal
 

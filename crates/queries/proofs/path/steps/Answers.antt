@@ -1,5 +1,4 @@
 -- The proof of queries::path::steps, by answers to its goals.
-use Rattle.std.proofs.Common.{rules, arith}
 use Rattle.queries.specs.Steps.{step_count}
 use Rattle.queries.proofs.path.steps.Goals as goal
 

@@ -1,5 +1,5 @@
 -- `table::allows`: by the tag, and by the least number of bytes.
-use Rattle.std.proofs.Common.{sym, ◌∙◌, rules, arith}
+use Rattle.std.proofs.Common.{sym, ◌∙◌}
 use Rattle.queries.specs.CheckLaws.{allowed_tag, allowed_other}
 use Rattle.queries.proofs.table.allows.Goals as goal
 

@@ -1,5 +1,5 @@
 -- `table::child_at`: by the number of children before it.
-use Rattle.std.proofs.Common.{sym, ◌∙◌, rules, arith}
+use Rattle.std.proofs.Common.{sym, ◌∙◌}
 use Rattle.queries.specs.CheckLaws.{child_first, child_second, child_later}
 use Rattle.queries.proofs.table.child_at.Goals as goal
 

@@ -1,7 +1,6 @@
 -- `table::child_of`: row by row, the code's kinds are those of the definitions.
-use Rattle.std.proofs.Common.{sym, ap, arith, rules}
+use Rattle.std.proofs.Common.{sym, ap, rules}
 use Rattle.queries.specs.Table.{kind_at}
-use Rattle.queries.specs.TableLaws.{kind_else}
 use Rattle.queries.proofs.table.child_of.Goals as goal
 
 pub returns-in-1 : goal.returns-in-1

@@ -1,5 +1,5 @@
 -- `table::may_be`: the further tags, below the range, or by its end.
-use Rattle.std.proofs.Common.{sym, arith, rules}
+use Rattle.std.proofs.Common.{sym}
 use Rattle.queries.specs.CheckLaws.{may_second, may_third, may_below, may_range}
 use Rattle.queries.proofs.table.may_be.Goals as goal
 

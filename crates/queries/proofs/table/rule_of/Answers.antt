@@ -1,5 +1,5 @@
 -- `table::rule_of`: a row of the code's table is the rule of its tag.
-use Rattle.std.proofs.Common.{arith, ◌≡◌, sym, ap, ◌∙◌, List, ℕ, ◌+◌, ◌*◌, get_or, rules}
+use Rattle.std.proofs.Common.{arith, sym, ap, ◌∙◌, List, ℕ, ◌+◌, ◌*◌, get_or}
 use Rattle.queries.specs.Table.{rule}
 use Rattle.queries.specs.TableLaws.{rule_row, rule_out}
 use Rattle.queries.proofs.table.rule_of.Goals as goal

@@ -1,5 +1,5 @@
 -- The proof of regrouping::join::join, by answers to its goals.
-use Rattle.std.proofs.Common.{arith, rules}
+use Rattle.std.proofs.Common.{arith}
 use Rattle.regrouping.specs.JoinLaws.{join_fails, join_ends, join_both}
 use Rattle.regrouping.proofs.join.join.Goals as goal
 

@@ -1,5 +1,5 @@
 -- The proof of regrouping::joined_group::joined_group, by answers to its goals.
-use Rattle.std.proofs.Common.{refl, arith, rules}
+use Rattle.std.proofs.Common.{refl, arith}
 use Rattle.regrouping.specs.JoinedGroupLaws.{head_inside, joined_long, joined_above, joined_standing, again_ready, again_overflow, again_ended, pairs_fit}
 use Rattle.regrouping.proofs.joined_group.joined_group.Goals as goal
 

@@ -1,5 +1,5 @@
 -- `find_line` is safe and ends: the place goes up to the length, since a next line begins further on.
-use Rattle.std.proofs.Common.{arith, rules, ◌≤◌, ◌-◌, length}
+use Rattle.std.proofs.Common.{arith, ◌-◌}
 use Rattle.row_text.proofs.lines.find_line.Goals as goal
 
 pub loop-at-smaller : goal.loop-at-smaller

@@ -1,4 +1,4 @@
-use Rattle.std.proofs.Common.{arith, rules, ◌≤◌, ◌-◌, length}
+use Rattle.std.proofs.Common.{◌≤◌, ◌-◌, length}
 use Rattle.row_text.proofs.lines.find_line.Given as goal
 
 abbrev pub invariant-loop-at : goal.invariant-loop-at

@@ -1,5 +1,5 @@
 -- `line_end` is safe and ends: the place goes up to the length.
-use Rattle.std.proofs.Common.{rules, ◌≤◌, ◌-◌, length, arith}
+use Rattle.std.proofs.Common.{◌≤◌, ◌-◌, length}
 use Rattle.row_text.proofs.lines.line_end.Given as goal
 
 abbrev pub invariant-loop-at : goal.invariant-loop-at

@@ -1,5 +1,5 @@
 -- `again` is safe and ends: the slice keeps its length, and i counts up.
-use Rattle.std.proofs.Common.{rules, ◌≡◌, ◌≤◌, ◌-◌, length, arith}
+use Rattle.std.proofs.Common.{◌≡◌, ◌-◌, length}
 use Rattle.row_text.proofs.notation.again.Given as goal
 
 abbrev pub invariant-loop-i : goal.invariant-loop-i

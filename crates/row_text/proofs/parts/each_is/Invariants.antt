@@ -1,5 +1,5 @@
 -- `each_is` is safe and ends: i counts up to the length.
-use Rattle.std.proofs.Common.{rules, ◌≤◌, ◌-◌, length, arith}
+use Rattle.std.proofs.Common.{◌≤◌, ◌-◌, length}
 use Rattle.row_text.proofs.parts.each_is.Given as goal
 
 abbrev pub invariant-loop-i : goal.invariant-loop-i

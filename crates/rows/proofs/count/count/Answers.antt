@@ -1,6 +1,6 @@
 -- `count` is safe and ends: each row ends further on than it begins, so there are no more rows than bytes, and no more
 -- agree than there are.
-use Rattle.std.proofs.Common.{arith, rules, ◌≤◌, ◌-◌, length}
+use Rattle.std.proofs.Common.{arith, ◌-◌}
 use Rattle.rows.proofs.count.count.Goals as goal
 
 pub loop-at-smaller : goal.loop-at-smaller

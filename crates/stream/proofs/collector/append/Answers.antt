@@ -1,5 +1,5 @@
 -- The proof of stream::collector::append, by answers to its goals.
-use Rattle.std.proofs.Common.{arith, rules}
+use Rattle.std.proofs.Common.{arith}
 use Rattle.stream.specs.CollectorLaws as law
 use Rattle.stream.proofs.collector.append.Goals as goal
 

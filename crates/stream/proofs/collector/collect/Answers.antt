@@ -1,5 +1,4 @@
 -- The proof of stream::collector::collect, by answers to its goals.
-use Rattle.std.proofs.Common.{rules, arith}
 use Rattle.stream.specs.CollectorLaws as law
 use Rattle.stream.proofs.collector.collect.Goals as goal
 

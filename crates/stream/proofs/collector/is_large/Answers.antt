@@ -1,5 +1,5 @@
 -- The proof of stream::collector::is_large, by answers to its goals.
-use Rattle.std.proofs.Common.{rules, arith}
+use Rattle.std.proofs.Common.{rules}
 use Rattle.stream.specs.Collector.{is_large}
 use Rattle.stream.proofs.collector.is_large.Goals as goal
 

@@ -1,6 +1,6 @@
 -- The proof of the cycle that feeds a tree, by answers to its goals: each stage takes some of the query's bytes, and
 -- what is right for the outcomes that are left is right for all.
-use Rattle.std.proofs.Common.{arith, rules, refl, sym, ◌∙◌, ◌*◌, ◌+◌, ◌-◌, ◌≤◌, ℕ, ◌<◌}
+use Rattle.std.proofs.Common.{arith, refl, sym, ◌∙◌, ◌-◌, ◌≤◌}
 use Rattle.spec_trees.specs.Limits.{nest_max}
 use Rattle.format.specs.StandLaws.{tree_places, holds_labels}
 use Rattle.spec_queries.specs.Query.{match, unwind, project}
@@ -9,7 +9,6 @@ use Rattle.queries.specs.Places.{path_bytes, criterion_bytes, items_bytes}
 use Rattle.place.specs.WriterLaws.{along_room, along_inside}
 use Rattle.stream.specs.Feed.{OkItems}
 use Rattle.stream.specs.FeedLaws as law
-use Rattle.stream.specs.Unwinding.{Unwinding, LeftFrom, LeftUnder}
 use Rattle.stream.specs.UnwindLaws as each
 use Rattle.stream.proofs.feed.+feeding.Goals as goal
 

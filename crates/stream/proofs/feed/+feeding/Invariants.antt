@@ -1,14 +1,5 @@
-use Rattle.std.proofs.Common.{arith, rules, refl, sym, ◌∙◌, ◌*◌, ◌+◌, ◌-◌, ◌≤◌, ℕ, ◌<◌}
-use Rattle.spec_trees.specs.Limits.{nest_max}
-use Rattle.format.specs.StandLaws.{tree_places, holds_labels}
-use Rattle.spec_queries.specs.Query.{match, unwind, project}
-use Rattle.spec_queries.specs.Rules.{OkP, NestedC}
-use Rattle.queries.specs.Places.{path_bytes, criterion_bytes, items_bytes}
-use Rattle.place.specs.WriterLaws.{along_room, along_inside}
-use Rattle.stream.specs.Feed.{OkItems}
-use Rattle.stream.specs.FeedLaws as law
+use Rattle.std.proofs.Common.{◌*◌, ◌+◌, ◌-◌}
 use Rattle.stream.specs.Unwinding.{Unwinding, LeftFrom, LeftUnder}
-use Rattle.stream.specs.UnwindLaws as each
 use Rattle.stream.proofs.feed.+feeding.Given as goal
 
 abbrev pub decreases-feed : goal.decreases-feed

@@ -1,5 +1,4 @@
 -- The proof of stretch::mark::mark_since, by answers to its goals.
-use Rattle.std.proofs.Common.{rules, arith}
 use Rattle.stretch.specs.CarryLaws.{since_marked, over_len, large_len, since_none}
 use Rattle.stretch.proofs.mark.mark_since.Goals as goal
 

@@ -1,10 +1,5 @@
 -- The proof of stretch::next::next_group, by answers to its goals.
-use Rattle.std.proofs.Common.{rules, refl, ◌-◌, arith}
-use Rattle.areas.specs.Area.{span}
-use Rattle.format.specs.Stand.{Holds}
-use Rattle.queries.specs.Places.{stages_bytes}
-use Rattle.stretch.specs.declared.next.Next.{Next}
-use Rattle.stretch.specs.Next.{NextPost}
+use Rattle.std.proofs.Common.{refl, ◌-◌, arith}
 use Rattle.stretch.specs.NextLaws.{next_end, next_places, next_stage, next_rest, next_on, next_here}
 use Rattle.stretch.proofs.next.next_group.Goals as goal
 

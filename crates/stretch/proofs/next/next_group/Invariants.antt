@@ -1,10 +1,9 @@
-use Rattle.std.proofs.Common.{rules, refl, ◌-◌, arith}
+use Rattle.std.proofs.Common.{◌-◌}
 use Rattle.areas.specs.Area.{span}
 use Rattle.format.specs.Stand.{Holds}
 use Rattle.queries.specs.Places.{stages_bytes}
 use Rattle.stretch.specs.declared.next.Next.{Next}
 use Rattle.stretch.specs.Next.{NextPost}
-use Rattle.stretch.specs.NextLaws.{next_end, next_places, next_stage, next_rest, next_on, next_here}
 use Rattle.stretch.proofs.next.next_group.Given as goal
 
 abbrev pub invariant-loop-at : goal.invariant-loop-at

@@ -1,5 +1,4 @@
 -- The proof of stretches::all::all, by answers to its goals.
-use Rattle.std.proofs.Common.{rules, arith}
 use Rattle.stretches.specs.AllLaws.{all_first, all_later, all_runs}
 use Rattle.stretches.proofs.all.all.Goals as goal
 

@@ -1,5 +1,4 @@
 -- The proof of stretches::later::last, by answers to its goals.
-use Rattle.std.proofs.Common.{rules, arith}
 use Rattle.stretches.specs.LaterLaws.{last_held, last_full, last_large}
 use Rattle.stretches.proofs.later.last.Goals as goal
 

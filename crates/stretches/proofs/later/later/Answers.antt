@@ -1,7 +1,7 @@
 -- The proof of stretches::later::later, by answers to its goals: what the stretches that are left come to is what all
 -- come to.
-use Rattle.std.proofs.Common.{rules, refl, ◌∙◌, ◌-◌, arith}
-use Rattle.stretches.specs.LaterLaws.{LaterGoing, later_last, later_large, later_places, later_long, later_held, later_overflow, later_ready, later_next}
+use Rattle.std.proofs.Common.{refl, ◌∙◌, ◌-◌, arith}
+use Rattle.stretches.specs.LaterLaws.{later_last, later_large, later_places, later_long, later_held, later_overflow, later_ready, later_next}
 use Rattle.stretches.proofs.later.later.Goals as goal
 
 pub loop-at-init : goal.loop-at-init

@@ -1,5 +1,5 @@
-use Rattle.std.proofs.Common.{rules, refl, ◌∙◌, ◌-◌, arith}
-use Rattle.stretches.specs.LaterLaws.{LaterGoing, later_last, later_large, later_places, later_long, later_held, later_overflow, later_ready, later_next}
+use Rattle.std.proofs.Common.{◌-◌}
+use Rattle.stretches.specs.LaterLaws.{LaterGoing}
 use Rattle.stretches.proofs.later.later.Given as goal
 
 abbrev pub invariant-loop-at : goal.invariant-loop-at

@@ -1,7 +1,5 @@
 -- The proof of stretches::later::next_stretch, by answers to its goals.
-use Rattle.std.proofs.Common.{rules, arith}
 use Rattle.stretches.specs.LaterLaws.{held_collected, held_classes, held_aggregates, held_overflow, held_group, held_post}
-use borrow.Author.Tests.{not-true, not-false}
 use Rattle.stretches.proofs.later.next_stretch.Goals as goal
 
 pub arrange-requires : goal.arrange-requires

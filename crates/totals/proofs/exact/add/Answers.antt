@@ -1,5 +1,5 @@
 -- The proof of totals::exact::add, by answers to its goals.
-use Rattle.std.proofs.Common.{arith, refl, rules}
+use Rattle.std.proofs.Common.{arith, refl}
 use Rattle.totals.specs.ExactLaws.{adds_more}
 use Rattle.totals.proofs.exact.add.Goals as goal
 

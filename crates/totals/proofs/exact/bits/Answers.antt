@@ -1,5 +1,5 @@
 -- The proof of totals::exact::bits, by answers to its goals.
-use Rattle.std.proofs.Common.{arith, rules}
+use Rattle.std.proofs.Common.{arith}
 use Rattle.totals.specs.ExactLaws.{bits_middle, bits_below}
 use Rattle.totals.proofs.exact.bits.Goals as goal
 

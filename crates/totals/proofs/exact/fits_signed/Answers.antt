@@ -1,5 +1,5 @@
 -- The proof of totals::exact::fits_signed, by answers to its goals.
-use Rattle.std.proofs.Common.{arith, rules}
+use Rattle.std.proofs.Common.{arith}
 use Rattle.totals.specs.ExactLaws.{fits_middle, fits_below}
 use Rattle.totals.proofs.exact.fits_signed.Goals as goal
 

@@ -1,5 +1,5 @@
 -- The proof of totals::over::sum_path, by answers to its goals.
-use Rattle.std.proofs.Common.{arith, rules}
+use Rattle.std.proofs.Common.{arith}
 use Rattle.paths.specs.WalkLaws.{walk_room}
 use Rattle.totals.specs.SumLaws.{summed_same, summed_within, ready_within}
 use Rattle.totals.specs.SumPathLaws.{found_missing, found_piece, found_places}

@@ -1,12 +1,9 @@
-use Rattle.std.proofs.Common.{arith, rules, refl, ◌-◌}
+use Rattle.std.proofs.Common.{◌-◌}
 use Rattle.areas.specs.Area.{span}
 use Rattle.format.specs.Stand.{trees_bytes}
 use Rattle.paths.specs.Walk.{given, Walk, TellsJoined}
-use Rattle.paths.specs.WalkLaws.{walk_first, walk_rest, walk_places}
 use Rattle.totals.specs.declared.exact.Total.{Total}
 use Rattle.totals.specs.Sum.{Summed, AddsTrees}
-use Rattle.totals.specs.SumLaws.{ready_empty, summed_same, summed_seq, ready_next, ready_first}
-use Rattle.totals.specs.SumPathLaws.{sum_end, sum_next, total_over}
 use Rattle.totals.proofs.over.total_over.Given as goal
 
 abbrev pub invariant-loop-at : goal.invariant-loop-at

@@ -1,13 +1,10 @@
 -- The proof of the cycle of totals::sum that adds the roots that a path gives, by answers to its goals: what is right for
 -- the trees from `at` on, with the total so far, is right for all.
-use Rattle.std.proofs.Common.{arith, rules, refl, ◌∙◌, ◌+◌, ◌*◌, ◌-◌, ℕ, ◌<◌}
-use Rattle.areas.specs.Area.{span}
-use Rattle.format.specs.Stand.{trees_bytes}
+use Rattle.std.proofs.Common.{arith, refl, ◌∙◌, ◌-◌}
 use Rattle.queries.specs.StepLaws.{steps_fewer}
-use Rattle.paths.specs.Walk.{given, Walk, TellsJoined}
+use Rattle.paths.specs.Walk.{given}
 use Rattle.paths.specs.WalkLaws.{tells_end, tells_missing, tells_part, over_given, walk_inside, walk_room, walk_part, part_places, walk_first, walk_rest, walk_places, step_left}
-use Rattle.totals.specs.declared.exact.Total.{Total}
-use Rattle.totals.specs.Sum.{Summed, AddsTrees}
+use Rattle.totals.specs.Sum.{AddsTrees}
 use Rattle.totals.specs.SumLaws.{summed_same, summed_within, summed_seq, summed_end, ready_within, ready_next, ready_first}
 use Rattle.totals.specs.SumPathLaws.{given_none, given_one, sum_end, sum_next}
 use Rattle.totals.proofs.sum.+summing.Goals as goal

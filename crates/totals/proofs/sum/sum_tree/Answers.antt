@@ -1,5 +1,5 @@
 -- The proof of totals::sum::sum_tree, by answers to its goals.
-use Rattle.std.proofs.Common.{arith, rules}
+use Rattle.std.proofs.Common.{arith}
 use Rattle.totals.specs.SumLaws.{summed_same, summed_one, tree_room, integer_room, tree_integer, tree_other}
 use Rattle.totals.proofs.sum.sum_tree.Goals as goal
 

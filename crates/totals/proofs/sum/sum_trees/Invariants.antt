@@ -1,10 +1,8 @@
-use Rattle.std.proofs.Common.{arith, refl, ◌-◌, rules}
+use Rattle.std.proofs.Common.{◌-◌}
 use Rattle.format.specs.Stand.{trees_bytes, Holds}
-use Rattle.format.specs.StandLaws.{trees_places, holds_first, holds_rest}
 use Rattle.areas.specs.Area.{span}
 use Rattle.totals.specs.declared.exact.Total.{Total}
 use Rattle.totals.specs.Sum.{Summed, AddsPart}
-use Rattle.totals.specs.SumLaws.{summed_same, summed_seq, summed_end, ready_next, ready_first, trees_end, trees_next}
 use Rattle.totals.proofs.sum.sum_trees.Given as goal
 
 abbrev pub invariant-loop-at : goal.invariant-loop-at

@@ -1,5 +1,4 @@
 -- The proof of totals::write::write_total, by answers to its goals.
-use Rattle.std.proofs.Common.{rules, arith}
 use Rattle.totals.specs.WriteLaws.{total_none, total_some}
 use Rattle.totals.proofs.write.write_total.Goals as goal
 

@@ -1,5 +1,5 @@
 -- The proof of tquery::interface::packed, by answers to its goals.
-use Rattle.std.proofs.Common.{ap₂, ◌+◌, ◌*◌, arith, rules}
+use Rattle.std.proofs.Common.{ap₂, ◌+◌, ◌*◌, arith}
 use Rattle.tquery.specs.InterfaceLaws.{packed_small}
 use Rattle.tquery.proofs.interface.packed.Goals as goal
 

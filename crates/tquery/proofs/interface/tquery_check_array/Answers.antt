@@ -1,5 +1,5 @@
 -- The proof of tquery::interface::tquery_check_array, by answers to its goals.
-use Rattle.std.proofs.Common.{arith, rules}
+use Rattle.std.proofs.Common.{arith}
 use Rattle.spec_trees.specs.Decode.{read_array}
 use Rattle.spec_run.specs.declared.answer.Refusal.TheVariants.{InputLong, InputMalformed}
 use Rattle.spec_run.specs.Run.{checked_array}

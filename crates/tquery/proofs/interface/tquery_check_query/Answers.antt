@@ -1,5 +1,5 @@
 -- The proof of tquery::interface::tquery_check_query, by answers to its goals.
-use Rattle.std.proofs.Common.{arith, rules}
+use Rattle.std.proofs.Common.{arith}
 use Rattle.spec_queries.specs.Decode.{read_query}
 use Rattle.spec_run.specs.declared.answer.Refusal.TheVariants.{QueryLong, QueryMalformed}
 use Rattle.spec_run.specs.Run.{checked_query}

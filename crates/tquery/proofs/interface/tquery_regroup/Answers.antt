@@ -1,7 +1,6 @@
 -- The proof of tquery::interface::tquery_regroup, by answers to its goals.
-use Rattle.std.proofs.Common.{rules, arith}
 use Rattle.spec_run.specs.Regroup.{regroup_call}
-use Rattle.spec_run.specs.RegroupLaws.{regroup_short}
+use Rattle.spec_run.proofs.RegroupLaws.{regroup_short}
 use Rattle.spec_run.specs.AnswerLaws.{regroup_by, by_regroup}
 use Rattle.tquery.specs.InterfaceLaws.{answered_short, answered_one}
 use Rattle.tquery.proofs.interface.tquery_regroup.Goals as goal

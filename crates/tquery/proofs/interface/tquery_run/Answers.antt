@@ -1,7 +1,6 @@
 -- The proof of tquery::interface::tquery_run, by answers to its goals.
-use Rattle.std.proofs.Common.{rules, arith}
 use Rattle.spec_run.specs.Run.{call}
-use Rattle.spec_run.specs.RunLaws.{run_short}
+use Rattle.spec_run.proofs.RunLaws.{run_short}
 use Rattle.spec_run.specs.AnswerLaws.{run_by, by_run}
 use Rattle.tquery.specs.InterfaceLaws.{answered_short, answered_one}
 use Rattle.tquery.proofs.interface.tquery_run.Goals as goal

@@ -1,6 +1,5 @@
 -- The proof of tquery::interface::tquery_tracer, by answers to its goals.
-use Rattle.std.proofs.Common.{rules, arith}
-use Rattle.spec_run.specs.TracerLaws.{tracer_short, traced_by, by_traced}
+use Rattle.spec_run.proofs.TracerLaws.{tracer_short, traced_by, by_traced}
 use Rattle.tquery.specs.InterfaceLaws.{answered_short, answered_one}
 use Rattle.tquery.proofs.interface.tquery_tracer.Goals as goal
 

@@ -1,5 +1,5 @@
 -- The proof of tquery_cli::respond::read_part, by answers to its goals.
-use Rattle.std.proofs.Common.{sym, arith, length-take-le, take_all, rules}
+use Rattle.std.proofs.Common.{sym, arith, length-take-le, take_all}
 use Rattle.spec_run.specs.Program.{program_max}
 use Rattle.tquery_cli.proofs.respond.read_part.Goals as goal
 

@@ -1,5 +1,5 @@
 -- The proof of tquery_cli::respond::respond, by answers to its goals.
-use Rattle.std.proofs.Common.{arith, rules}
+use Rattle.std.proofs.Common.{arith}
 use Rattle.tquery_cli.specs.RespondLaws.{areas_ready, read_first}
 use Rattle.tquery_cli.proofs.respond.respond.Goals as goal
 

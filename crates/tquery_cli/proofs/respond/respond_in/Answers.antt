@@ -1,5 +1,5 @@
 -- The proof of tquery_cli::respond::respond_in, by answers to its goals.
-use Rattle.std.proofs.Common.{sym, arith, length-take-le, rules}
+use Rattle.std.proofs.Common.{sym, arith, length-take-le}
 use Rattle.tquery_cli.specs.RespondLaws.{answer_ready, responds}
 use Rattle.tquery_cli.proofs.respond.respond_in.Goals as goal
 

@@ -1,5 +1,5 @@
 -- The proof of tquery_cli::respond::write_answer, by answers to its goals.
-use Rattle.std.proofs.Common.{sym, rules, arith}
+use Rattle.std.proofs.Common.{sym}
 use Rattle.tquery_cli.specs.RespondLaws.{show_length, show_room, show_result, show_refusal, refusal_small}
 use Rattle.tquery_cli.proofs.respond.write_answer.Goals as goal
 

@@ -1,5 +1,5 @@
 -- The proof of tquery_cli::split::piece_end, by answers to its goals.
-use Rattle.std.proofs.Common.{arith, rules}
+use Rattle.std.proofs.Common.{arith}
 use Rattle.tquery_cli.specs.SplitLaws.{piece_short, piece_inside, piece_over}
 use Rattle.tquery_cli.proofs.split.piece_end.Goals as goal
 

@@ -1,5 +1,5 @@
 -- The proof of tquery_cli::text::hex_digit, by answers to its goals.
-use Rattle.std.proofs.Common.{lt-ltb, le-ltb, rules, arith}
+use Rattle.std.proofs.Common.{lt-ltb, le-ltb}
 use Rattle.spec_run.specs.Program.{digit}
 use Rattle.tquery_cli.proofs.text.hex_digit.Goals as goal
 

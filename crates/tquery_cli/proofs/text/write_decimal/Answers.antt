@@ -1,5 +1,5 @@
 -- The proof of tquery_cli::text::write_decimal, by answers to its goals.
-use Rattle.std.proofs.Common.{arith, length-set, rules}
+use Rattle.std.proofs.Common.{arith, length-set}
 use Rattle.tquery_cli.specs.TextLaws.{one_digit, two_digits}
 use Rattle.tquery_cli.proofs.text.write_decimal.Goals as goal
 

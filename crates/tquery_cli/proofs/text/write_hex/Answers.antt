@@ -1,6 +1,6 @@
 -- The proof of tquery_cli::text::write_hex, by answers to its goals: the text of the first i bytes is written.
-use Rattle.std.proofs.Common.{rules, ◌≡◌, refl, arith, ◌+◌, ◌*◌, ◌-◌, ◌≤◌, length, length-set}
-use Rattle.tquery_cli.specs.TextLaws.{HexWritten, digits_more, digits_end}
+use Rattle.std.proofs.Common.{refl, arith, ◌-◌, length-set}
+use Rattle.tquery_cli.specs.TextLaws.{digits_more, digits_end}
 use Rattle.tquery_cli.proofs.text.write_hex.Goals as goal
 
 pub loop-i-init : goal.loop-i-init

@@ -1,5 +1,5 @@
-use Rattle.std.proofs.Common.{rules, ◌≡◌, refl, arith, ◌+◌, ◌*◌, ◌-◌, ◌≤◌, length, length-set}
-use Rattle.tquery_cli.specs.TextLaws.{HexWritten, digits_more, digits_end}
+use Rattle.std.proofs.Common.{◌≡◌, ◌+◌, ◌*◌, ◌-◌, ◌≤◌, length}
+use Rattle.tquery_cli.specs.TextLaws.{HexWritten}
 use Rattle.tquery_cli.proofs.text.write_hex.Given as goal
 
 abbrev pub invariant-loop-i : goal.invariant-loop-i

@@ -1,5 +1,5 @@
 -- The proof of tquery_cli::text::write_refused, by answers to its goals.
-use Rattle.std.proofs.Common.{◌∙◌, arith, length-set, rules}
+use Rattle.std.proofs.Common.{◌∙◌, arith, length-set}
 use Rattle.tquery_cli.specs.TextLaws.{refusal_end}
 use Rattle.tquery_cli.proofs.text.write_refused.Goals as goal
 

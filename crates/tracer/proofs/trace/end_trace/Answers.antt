@@ -1,5 +1,4 @@
 -- The proof of tracer::trace::end_trace, by answers to its goals.
-use Rattle.std.proofs.Common.{rules, arith}
 use Rattle.tracer.specs.TraceLaws.{ends_large, ends_fits}
 use Rattle.tracer.proofs.trace.end_trace.Goals as goal
 

@@ -1,5 +1,5 @@
 -- The proof of tracer::trace::least, by answers to its goals.
-use Rattle.std.proofs.Common.{arith, refl, inl, inr, rules}
+use Rattle.std.proofs.Common.{arith, refl, inl, inr}
 use Rattle.tracer.proofs.trace.least.Goals as goal
 
 pub returns-then-one-other : goal.returns-then-one-other

@@ -1,5 +1,5 @@
 -- The proof of tracer::trace::trace, by answers to its goals.
-use Rattle.std.proofs.Common.{arith, sym, length-take-le, rules}
+use Rattle.std.proofs.Common.{arith, sym, length-take-le}
 use borrow.Author.Tests.{not-true, not-false}
 use Rattle.tracer.specs.TraceLaws.{over_length, out_of_form, room_ready, traced_ends}
 use Rattle.tracer.proofs.trace.trace.Goals as goal

@@ -1,8 +1,7 @@
 -- The proof of tracer_lines::bytes::digits_end, by answers to its goals: from `at` on the piece ends where it ends from the start.
-use Rattle.std.proofs.Common.{arith, rules, ◌≡◌, refl, sym, ◌∙◌, ◌-◌, ◌≤◌, length}
+use Rattle.std.proofs.Common.{arith, refl, sym, ◌∙◌, ◌-◌}
 use borrow.Author.Tests.{not-true, not-false}
 use Rattle.spec_tracer.specs.Message.{is_digit}
-use Rattle.tracer_lines.specs.Piece.{piece_end}
 use Rattle.tracer_lines.specs.PieceLaws.{piece_over, piece_stop, piece_more}
 use Rattle.tracer_lines.proofs.bytes.digits_end.Goals as goal
 

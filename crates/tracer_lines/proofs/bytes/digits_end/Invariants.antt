@@ -1,8 +1,6 @@
-use Rattle.std.proofs.Common.{arith, rules, ◌≡◌, refl, sym, ◌∙◌, ◌-◌, ◌≤◌, length}
-use borrow.Author.Tests.{not-true, not-false}
+use Rattle.std.proofs.Common.{◌≡◌, ◌-◌, ◌≤◌, length}
 use Rattle.spec_tracer.specs.Message.{is_digit}
 use Rattle.tracer_lines.specs.Piece.{piece_end}
-use Rattle.tracer_lines.specs.PieceLaws.{piece_over, piece_stop, piece_more}
 use Rattle.tracer_lines.proofs.bytes.digits_end.Given as goal
 
 abbrev pub invariant-loop-at : goal.invariant-loop-at

@@ -1,5 +1,5 @@
 -- The proof of tracer_lines::bytes::is_capital, by answers to its goals.
-use Rattle.std.proofs.Common.{arith, refl, le-leb, rules}
+use Rattle.std.proofs.Common.{arith, refl, le-leb}
 use borrow.Author.Tests.{lt-leb}
 use Rattle.spec_tracer.specs.Message.{is_capital}
 use Rattle.tracer_lines.proofs.bytes.is_capital.Goals as goal

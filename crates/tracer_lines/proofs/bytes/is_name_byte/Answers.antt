@@ -1,5 +1,5 @@
 -- The proof of tracer_lines::bytes::is_name_byte, by answers to its goals.
-use Rattle.std.proofs.Common.{sym, ◌∙◌, rules, arith}
+use Rattle.std.proofs.Common.{sym, ◌∙◌}
 use Rattle.tracer_lines.specs.PieceLaws.{name_capital, name_digit}
 use Rattle.tracer_lines.proofs.bytes.is_name_byte.Goals as goal
 

@@ -1,5 +1,5 @@
 -- The proof of tracer_lines::bytes::is_value_byte, by answers to its goals.
-use Rattle.std.proofs.Common.{arith, rules}
+use Rattle.std.proofs.Common.{arith}
 use Rattle.tracer_lines.specs.PieceLaws.{value_low, value_high, value_between}
 use Rattle.tracer_lines.proofs.bytes.is_value_byte.Goals as goal
 

@@ -1,5 +1,5 @@
 -- The proof of tracer_lines::bytes::stands, by answers to its goals.
-use Rattle.std.proofs.Common.{arith, rules}
+use Rattle.std.proofs.Common.{arith}
 use Rattle.tracer_lines.specs.PieceLaws.{stands_here, stands_beyond}
 use Rattle.tracer_lines.proofs.bytes.stands.Goals as goal
 

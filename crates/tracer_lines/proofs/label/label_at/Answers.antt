@@ -1,5 +1,5 @@
 -- The proof of tracer_lines::label::label_at, by answers to its goals.
-use Rattle.std.proofs.Common.{◌∙◌, ap, rules, arith}
+use Rattle.std.proofs.Common.{◌∙◌, ap}
 use Rattle.tracer_lines.specs.Label.{word_label}
 use Rattle.tracer_lines.specs.LabelLaws.{name_label}
 use Rattle.tracer_lines.proofs.label.label_at.Goals as goal

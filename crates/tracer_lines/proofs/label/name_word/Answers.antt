@@ -1,5 +1,5 @@
 -- The proof of tracer_lines::label::name_word, by answers to its goals: the number of the bytes before `at`.
-use Rattle.std.proofs.Common.{arith, rules, ◌≡◌, ap, ◌∙◌, ◌-◌, ◌≤◌}
+use Rattle.std.proofs.Common.{arith, ◌≡◌, ap, ◌∙◌, ◌-◌}
 use Rattle.spec_trees.specs.Readers.{big_value}
 use Rattle.tracer_lines.specs.Piece.{part}
 use Rattle.tracer_lines.specs.LabelLaws.{word_none, word_more, word_small}

@@ -1,7 +1,6 @@
-use Rattle.std.proofs.Common.{arith, rules, ◌≡◌, ap, ◌∙◌, ◌-◌, ◌≤◌}
+use Rattle.std.proofs.Common.{◌≡◌, ◌-◌, ◌≤◌}
 use Rattle.spec_trees.specs.Readers.{big_value}
 use Rattle.tracer_lines.specs.Piece.{part}
-use Rattle.tracer_lines.specs.LabelLaws.{word_none, word_more, word_small}
 use Rattle.tracer_lines.proofs.label.name_word.Given as goal
 
 abbrev pub invariant-loop-at : goal.invariant-loop-at

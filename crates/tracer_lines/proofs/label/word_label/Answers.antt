@@ -1,7 +1,6 @@
 -- The proof of tracer_lines::label::word_label, by answers to its goals.
 use Rattle.std.proofs.Common.{arith, sym, ap, rules}
 use Rattle.tracer_lines.specs.Label.{word_label}
-use Rattle.tracer_lines.specs.LabelLaws.{word_else}
 use Rattle.tracer_lines.proofs.label.word_label.Goals as goal
 
 pub returns-in-4869954 : goal.returns-in-4869954

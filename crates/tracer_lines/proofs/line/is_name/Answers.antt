@@ -1,5 +1,5 @@
 -- The proof of tracer_lines::line::is_name, by answers to its goals.
-use Rattle.std.proofs.Common.{arith, ◌∙◌, rules}
+use Rattle.std.proofs.Common.{arith, ◌∙◌}
 use Rattle.tracer_lines.specs.LineLaws.{name_none, name_over, name_begins}
 use Rattle.tracer_lines.proofs.line.is_name.Goals as goal
 

@@ -1,5 +1,5 @@
 -- The proof of tracer_lines::line::line_at, by answers to its goals.
-use Rattle.std.proofs.Common.{arith, sym, ◌∙◌, ◌+◌, rules}
+use Rattle.std.proofs.Common.{arith, sym, ◌∙◌, ◌+◌}
 use borrow.Author.Tests.{not-true, not-false}
 use Rattle.spec_tracer.specs.Message.{equals, carriage_return, line_feed, is_name_byte}
 use Rattle.tracer_lines.specs.PieceLaws.{piece_above, piece_inside}

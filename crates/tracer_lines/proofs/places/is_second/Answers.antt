@@ -1,5 +1,4 @@
 -- The proof of tracer_lines::places::is_second, by answers to its goals.
-use Rattle.std.proofs.Common.{arith, rules}
 use Rattle.tracer_lines.specs.PlacesLaws.{second_none, second_some}
 use Rattle.tracer_lines.proofs.places.is_second.Goals as goal
 

@@ -1,6 +1,5 @@
 -- The proof of tracer_lines::places::read_lines, by answers to its goals: the lines before `at` are read and noted.
-use Rattle.std.proofs.Common.{arith, rules, sym, ◌∙◌, ◌-◌, length}
-use Rattle.tracer_lines.specs.Places.{Reading}
+use Rattle.std.proofs.Common.{arith, sym, ◌∙◌, ◌-◌}
 use Rattle.tracer_lines.specs.PlacesLaws.{reading_begins, reading_refused, reading_twice, reading_next, reading_ends}
 use Rattle.tracer_lines.proofs.places.read_lines.Goals as goal
 

@@ -1,6 +1,5 @@
-use Rattle.std.proofs.Common.{arith, rules, sym, ◌∙◌, ◌-◌, length}
+use Rattle.std.proofs.Common.{◌-◌, length}
 use Rattle.tracer_lines.specs.Places.{Reading}
-use Rattle.tracer_lines.specs.PlacesLaws.{reading_begins, reading_refused, reading_twice, reading_next, reading_ends}
 use Rattle.tracer_lines.proofs.places.read_lines.Given as goal
 
 abbrev pub invariant-loop-at : goal.invariant-loop-at

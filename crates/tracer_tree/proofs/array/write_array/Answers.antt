@@ -1,5 +1,5 @@
 -- The proof of tracer_tree::array::write_array, by answers to its goals.
-use Rattle.std.proofs.Common.{arith, ◌∙◌, rules}
+use Rattle.std.proofs.Common.{arith, ◌∙◌}
 use Rattle.tracer_tree.specs.ArrayLaws.{array_large, labels_ready, tree_finishable, array_finishable, array_wrote}
 use Rattle.tracer_tree.proofs.array.write_array.Goals as goal
 

@@ -1,5 +1,5 @@
 -- The proof of tracer_tree::labels::write_label, by answers to its goals.
-use Rattle.std.proofs.Common.{arith, rules}
+use Rattle.std.proofs.Common.{arith}
 use Rattle.tracer_tree.specs.LabelsLaws.{place_inside, label_none, label_large, label_behind, label_some}
 use Rattle.tracer_tree.proofs.labels.write_label.Goals as goal
 

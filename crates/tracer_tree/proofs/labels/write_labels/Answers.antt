@@ -1,7 +1,5 @@
 -- The proof of tracer_tree::labels::write_labels, by answers to its goals: the labels before `label` are written.
-use Rattle.std.proofs.Common.{arith, rules, ◌-◌}
-use Rattle.areas.specs.Area.{span}
-use Rattle.tracer_tree.specs.Labels.{Writing}
+use Rattle.std.proofs.Common.{arith, ◌-◌}
 use Rattle.tracer_tree.specs.LabelsLaws.{writing_begins, writing_next, writing_fails, writing_ends}
 use Rattle.tracer_tree.proofs.labels.write_labels.Goals as goal
 

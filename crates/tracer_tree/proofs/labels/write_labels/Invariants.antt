@@ -1,7 +1,6 @@
-use Rattle.std.proofs.Common.{arith, rules, ◌-◌}
+use Rattle.std.proofs.Common.{◌-◌}
 use Rattle.areas.specs.Area.{span}
 use Rattle.tracer_tree.specs.Labels.{Writing}
-use Rattle.tracer_tree.specs.LabelsLaws.{writing_begins, writing_next, writing_fails, writing_ends}
 use Rattle.tracer_tree.proofs.labels.write_labels.Given as goal
 
 abbrev pub invariant-loop-label : goal.invariant-loop-label

@@ -1,5 +1,5 @@
 -- The proof of tracer_tree::number::amount_at, by answers to its goals.
-use Rattle.std.proofs.Common.{arith, sym, ap, ◌∙◌, ◌+◌, ◌*◌, rules}
+use Rattle.std.proofs.Common.{arith, sym, ap, ◌∙◌, ◌+◌, ◌*◌}
 use Rattle.spec_tracer.specs.Message.{is_digit}
 use Rattle.tracer_lines.specs.PieceLaws.{piece_above, piece_inside}
 use Rattle.tracer_tree.specs.Number.{amount_of}

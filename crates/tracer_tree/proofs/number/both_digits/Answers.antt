@@ -1,5 +1,5 @@
 -- The proof of tracer_tree::number::both_digits, by answers to its goals.
-use Rattle.std.proofs.Common.{sym, ap, ap₂, ◌∙◌, ◌+◌, ◌*◌, rules, arith}
+use Rattle.std.proofs.Common.{sym, ap, ap₂, ◌∙◌, ◌+◌, ◌*◌}
 use borrow.Author.Tests.{not-true, not-false}
 use Rattle.tracer_tree.specs.Number.{amount_of}
 use Rattle.tracer_tree.specs.declared.number.Amount.{Amount}

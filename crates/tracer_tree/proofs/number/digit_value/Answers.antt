@@ -1,5 +1,4 @@
 -- The proof of tracer_tree::number::digit_value, by answers to its goals.
-use Rattle.std.proofs.Common.{rules, arith}
 use Rattle.tracer_tree.specs.NumberLaws.{digit_least, digit_said}
 use Rattle.tracer_tree.proofs.number.digit_value.Goals as goal
 

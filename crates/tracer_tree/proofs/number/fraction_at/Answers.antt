@@ -1,5 +1,5 @@
 -- The proof of tracer_tree::number::fraction_at, by answers to its goals.
-use Rattle.std.proofs.Common.{arith, sym, ap, ◌∙◌, rules}
+use Rattle.std.proofs.Common.{arith, sym, ap, ◌∙◌}
 use Rattle.tracer_tree.specs.Number.{amount_of}
 use Rattle.tracer_tree.specs.NumberLaws.{fraction_none, fraction_other, fraction_one, fraction_two, fraction_more}
 use Rattle.tracer_tree.proofs.number.fraction_at.Goals as goal

@@ -1,5 +1,5 @@
 -- The proof of tracer_tree::number::negative, by answers to its goals.
-use Rattle.std.proofs.Common.{refl, rules, arith}
+use Rattle.std.proofs.Common.{refl}
 use Rattle.tracer_tree.specs.NumberLaws.{negative_none, negative_zero, negative_some}
 use Rattle.tracer_tree.proofs.number.negative.Goals as goal
 

@@ -1,5 +1,4 @@
 -- The proof of tracer_tree::number::positive, by answers to its goals.
-use Rattle.std.proofs.Common.{rules, arith}
 use Rattle.tracer_tree.specs.NumberLaws.{positive_none, positive_some}
 use Rattle.tracer_tree.proofs.number.positive.Goals as goal
 

@@ -1,5 +1,5 @@
 -- The proof of tracer_tree::number::read_number, by answers to its goals.
-use Rattle.std.proofs.Common.{sym, ◌∙◌, rules, arith}
+use Rattle.std.proofs.Common.{sym, ◌∙◌}
 use Rattle.tracer_tree.specs.NumberLaws.{minus_inside, number_negative, number_positive}
 use Rattle.tracer_tree.proofs.number.read_number.Goals as goal
 

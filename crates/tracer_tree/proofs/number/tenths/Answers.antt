@@ -1,5 +1,5 @@
 -- The proof of tracer_tree::number::tenths, by answers to its goals.
-use Rattle.std.proofs.Common.{sym, ap, ◌∙◌, ◌*◌, rules, arith}
+use Rattle.std.proofs.Common.{sym, ap, ◌∙◌, ◌*◌}
 use borrow.Author.Tests.{not-true, not-false}
 use Rattle.tracer_tree.specs.Number.{amount_of}
 use Rattle.tracer_tree.specs.declared.number.Amount.{Amount}

@@ -1,8 +1,6 @@
 -- The proof of tracer_tree::number::whole, by answers to its goals: what the digits from `at` on write behind the number so
 -- far is what all write.
-use Rattle.std.proofs.Common.{arith, rules, ◌≡◌, refl, sym, ap, ◌∙◌, true, ◌+◌, ◌-◌, ◌*◌, ◌≤◌}
-use Rattle.spec_trees.specs.Lists.{all}
-use Rattle.spec_tracer.specs.Message.{is_digit}
+use Rattle.std.proofs.Common.{arith, ◌≡◌, refl, sym, ap, ◌∙◌, true, ◌+◌, ◌-◌, ◌*◌}
 use Rattle.spec_tracer.specs.Values.{decimal}
 use Rattle.tracer_lines.specs.Piece.{part}
 use Rattle.tracer_tree.specs.NumberLaws.{digits_next, decimal_next, decimal_below, decimal_end}

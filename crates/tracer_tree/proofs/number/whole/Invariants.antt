@@ -1,9 +1,8 @@
-use Rattle.std.proofs.Common.{arith, rules, ◌≡◌, refl, sym, ap, ◌∙◌, true, ◌+◌, ◌-◌, ◌*◌, ◌≤◌}
+use Rattle.std.proofs.Common.{◌≡◌, true, ◌-◌, ◌≤◌}
 use Rattle.spec_trees.specs.Lists.{all}
 use Rattle.spec_tracer.specs.Message.{is_digit}
 use Rattle.spec_tracer.specs.Values.{decimal}
 use Rattle.tracer_lines.specs.Piece.{part}
-use Rattle.tracer_tree.specs.NumberLaws.{digits_next, decimal_next, decimal_below, decimal_end}
 use Rattle.tracer_tree.proofs.number.whole.Given as goal
 
 abbrev pub invariant-loop-at : goal.invariant-loop-at

@@ -1,5 +1,4 @@
 -- The proof of tracer_tree::values::write_value, by answers to its goals.
-use Rattle.std.proofs.Common.{rules, arith}
 use Rattle.tracer_tree.specs.ValuesLaws.{wrote_same, void_bytes, job_bytes, text_bytes, number_bytes_lem}
 use Rattle.tracer_tree.proofs.values.write_value.Goals as goal
 

@@ -1,5 +1,5 @@
 -- The proof of tracer_tree::values::write_values, by answers to its goals.
-use Rattle.std.proofs.Common.{arith, sym, ◌∙◌, rules}
+use Rattle.std.proofs.Common.{arith, sym, ◌∙◌}
 use borrow.Author.Tests.{not-true, not-false}
 use Rattle.spec_tracer.specs.Message.{semicolon, is_value_byte}
 use Rattle.tracer_lines.specs.PieceLaws.{piece_above, piece_inside}

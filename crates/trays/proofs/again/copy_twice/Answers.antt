@@ -1,6 +1,6 @@
 -- The proof of trays::again::copy_twice, by answers to its goals.
-use Rattle.std.proofs.Common.{rules, refl, ◌-◌, ◌≤◌, arith, length, length-set}
-use Rattle.trays.specs.AgainLaws.{TwiceGoing, twice_begin, twice_next, twice_end}
+use Rattle.std.proofs.Common.{◌-◌, arith, length-set}
+use Rattle.trays.specs.AgainLaws.{twice_begin, twice_next, twice_end}
 use Rattle.trays.proofs.again.copy_twice.Goals as goal
 
 pub loop-i-init : goal.loop-i-init

@@ -1,5 +1,5 @@
-use Rattle.std.proofs.Common.{rules, refl, ◌-◌, ◌≤◌, arith, length, length-set}
-use Rattle.trays.specs.AgainLaws.{TwiceGoing, twice_begin, twice_next, twice_end}
+use Rattle.std.proofs.Common.{◌-◌, ◌≤◌, length}
+use Rattle.trays.specs.AgainLaws.{TwiceGoing}
 use Rattle.trays.proofs.again.copy_twice.Given as goal
 
 abbrev pub invariant-loop-i : goal.invariant-loop-i

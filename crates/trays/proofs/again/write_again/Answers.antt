@@ -1,5 +1,4 @@
 -- The proof of trays::again::write_again, by answers to its goals.
-use Rattle.std.proofs.Common.{rules, arith}
 use Rattle.trays.specs.AgainLaws.{aggregates_room, keys_room, group_written}
 use Rattle.trays.proofs.again.write_again.Goals as goal
 

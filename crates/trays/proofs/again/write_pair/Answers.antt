@@ -1,5 +1,5 @@
 -- The proof of trays::again::write_pair, by answers to its goals.
-use Rattle.std.proofs.Common.{arith, rules}
+use Rattle.std.proofs.Common.{arith}
 use Rattle.trays.specs.AgainLaws.{field_size, pair_written}
 use Rattle.trays.proofs.again.write_pair.Goals as goal
 

@@ -1,10 +1,9 @@
 -- The proof of trays::again::write_pairs, by answers to its goals: what is written behind `to` for the pairs from `from`
 -- on makes all of them written.
-use Rattle.std.proofs.Common.{refl, ◌-◌, arith, rules}
-use Rattle.areas.specs.Area.{span}
+use Rattle.std.proofs.Common.{refl, ◌-◌, arith}
 use Rattle.spec_queries.specs.Bytes.{pair_f}
 use Rattle.queries.specs.PartLaws.{list_places, list_first}
-use Rattle.trays.specs.AgainLaws.{PairsGoing, pairs_begin, pairs_held, pairs_end, pairs_room, pairs_next}
+use Rattle.trays.specs.AgainLaws.{pairs_begin, pairs_held, pairs_end, pairs_room, pairs_next}
 use Rattle.trays.proofs.again.write_pairs.Goals as goal
 
 pub loop-from-init : goal.loop-from-init

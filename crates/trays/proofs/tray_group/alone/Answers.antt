@@ -1,6 +1,4 @@
 -- The proof of trays::tray_group::alone, by answers to its goals.
-use Rattle.std.proofs.Common.{rules, arith}
-use borrow.Author.Tests.{not-true, not-false}
 use Rattle.trays.specs.TrayGroupLaws.{lead_inside, target_room, alone_not, alone_behind, alone_others}
 use Rattle.trays.proofs.tray_group.alone.Goals as goal
 

@@ -1,6 +1,4 @@
 -- The proof of trays::tray_group::distinct, by answers to its goals.
-use Rattle.std.proofs.Common.{rules, arith}
-use borrow.Author.Tests.{not-true, not-false}
 use Rattle.trays.specs.TrayGroupLaws.{group_aggregates, group_keys, group_none, distinct_not, distinct_is}
 use Rattle.trays.proofs.tray_group.distinct.Goals as goal
 

@@ -1,12 +1,8 @@
 -- The proof of trays::tray_group::no_totals, by answers to its goals: what is right for the pairs from `at` on is right
 -- for all.
-use Rattle.std.proofs.Common.{refl, Bool, true, false, ◌-◌, arith, rules}
+use Rattle.std.proofs.Common.{refl, true, false, ◌-◌, arith}
 use Rattle.spec_queries.specs.Bytes.{pair_f}
-use Rattle.areas.specs.Area.{span}
-use Rattle.format.specs.Stand.{Holds}
-use Rattle.queries.specs.Places.{pairs_bytes}
 use Rattle.queries.specs.PartLaws.{list_places, list_first, list_rest}
-use Rattle.trays.specs.TrayGroup.{NoTotalsIs}
 use Rattle.trays.specs.TrayGroupLaws.{totals_end, totals_found, totals_next}
 use Rattle.trays.proofs.tray_group.no_totals.Goals as goal
 

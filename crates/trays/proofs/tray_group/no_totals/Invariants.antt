@@ -1,11 +1,8 @@
-use Rattle.std.proofs.Common.{refl, Bool, true, false, ◌-◌, arith, rules}
-use Rattle.spec_queries.specs.Bytes.{pair_f}
+use Rattle.std.proofs.Common.{Bool, ◌-◌}
 use Rattle.areas.specs.Area.{span}
 use Rattle.format.specs.Stand.{Holds}
 use Rattle.queries.specs.Places.{pairs_bytes}
-use Rattle.queries.specs.PartLaws.{list_places, list_first, list_rest}
 use Rattle.trays.specs.TrayGroup.{NoTotalsIs}
-use Rattle.trays.specs.TrayGroupLaws.{totals_end, totals_found, totals_next}
 use Rattle.trays.proofs.tray_group.no_totals.Given as goal
 
 abbrev pub invariant-loop-at : goal.invariant-loop-at

@@ -1,13 +1,9 @@
 -- The proof of trays::tray_group::none_leads, by answers to its goals: what is right for the pairs from `at` on is right
 -- for all.
-use Rattle.std.proofs.Common.{refl, Bool, true, false, ◌-◌, arith, rules}
-use Rattle.spec_trees.specs.Lists.{All}
+use Rattle.std.proofs.Common.{refl, true, false, ◌-◌, arith}
 use Rattle.spec_queries.specs.Bytes.{pair_f}
 use Rattle.spec_queries.specs.Rules.{OkPair}
-use Rattle.areas.specs.Area.{span}
-use Rattle.queries.specs.Places.{pairs_bytes, HoldsOk}
 use Rattle.queries.specs.PartLaws.{holds_of, list_places, list_first, ok_list_rest}
-use Rattle.trays.specs.TrayGroup.{NoneLeadsIs}
 use Rattle.trays.specs.TrayGroupLaws.{lead_inside, first_target, none_end, none_found, none_next}
 use Rattle.trays.proofs.tray_group.none_leads.Goals as goal
 

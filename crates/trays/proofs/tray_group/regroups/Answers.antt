@@ -1,6 +1,4 @@
 -- The proof of trays::tray_group::regroups, by answers to its goals.
-use Rattle.std.proofs.Common.{rules, arith}
-use borrow.Author.Tests.{not-true, not-false}
 use Rattle.trays.specs.TrayGroupLaws.{group_held, regroups_not, regroups_is}
 use Rattle.trays.proofs.tray_group.regroups.Goals as goal
 

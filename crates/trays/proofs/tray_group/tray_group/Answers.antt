@@ -1,5 +1,5 @@
 -- The proof of trays::tray_group::tray_group, by answers to its goals.
-use Rattle.std.proofs.Common.{refl, rules, arith}
+use Rattle.std.proofs.Common.{refl}
 use Rattle.trays.specs.TrayGroupLaws.{query_empty, query_end, query_more, query_stage, query_plain, query_group, query_such, query_not_such}
 use Rattle.trays.proofs.tray_group.tray_group.Goals as goal
 

@@ -1,11 +1,8 @@
-use Rattle.std.proofs.Common.{arith, rules, ◌≡◌, refl, ◌∙◌, List, ℕ, ◌+◌, ◌*◌, ◌-◌, length, ◌<◌}
+use Rattle.std.proofs.Common.{◌≡◌, List, ℕ, ◌+◌, ◌*◌, ◌-◌, length}
 use Rattle.areas.specs.Area.{span}
-use Rattle.queries.specs.StepLaws.{steps_fewer}
 use Rattle.unwind.specs.declared.unwind.Nth.{Nth}
 use Rattle.place.specs.Writers.{WriterReady}
 use Rattle.unwind.specs.Outcomes.{sounds_bytes, RoomFor, PutsNthEach}
-use Rattle.place.specs.WriterLaws.{along_room, along_inside, along_small, step_before, ready_places, ready_labels}
-use Rattle.unwind.specs.OutcomeLaws.{sound_plain, sound_places, sound_array, sound_room, sound_around, nth_end, nth_missing, nth_inner_past, nth_inner_written, nth_none, nth_here, nth_next, sounds_first, sounds_rest, sounds_end}
 use Rattle.unwind.proofs.unwind.+putting.Given as goal
 
 abbrev pub decreases-put_nth : goal.decreases-put_nth

@@ -1,13 +1,9 @@
 -- The proof of the cycle that counts outcomes, by answers to its goals: a label takes one step of the path, and what is
 -- right from `at` on is right for all. There are no more outcomes than bytes, so the sum fits.
-use Rattle.std.proofs.Common.{arith, rules, refl, sym, ◌∙◌, ℕ, ◌+◌, ◌*◌, ◌-◌, ◌≤◌, add_assoc, add-zero, zero-add, ◌<◌}
-use Rattle.format.specs.Stand.{trees_bytes}
+use Rattle.std.proofs.Common.{arith, refl, sym, ◌∙◌, ◌-◌, add_assoc, add-zero, zero-add}
 use Rattle.format.specs.StandLaws.{tree_places, trees_places, holds_labels, holds_first, holds_rest}
 use Rattle.format.specs.LabelLaws.{holds_found}
-use Rattle.areas.specs.Area.{span}
-use Rattle.queries.specs.Places.{HoldsAt}
 use Rattle.queries.specs.StepLaws.{steps_fewer}
-use Rattle.unwind.specs.Outcomes.{CountsEach}
 use Rattle.place.specs.WriterLaws.{along_room, along_inside, step_before}
 use Rattle.unwind.specs.OutcomeLaws.{count_end, count_missing, count_part, count_none, count_next, count_bound, count_sum}
 use Rattle.unwind.proofs.unwind.+unwinding.Goals as goal

@@ -1,5 +1,5 @@
 -- The proof of unwind::unwind::put_element, by answers to its goals.
-use Rattle.std.proofs.Common.{arith, rules}
+use Rattle.std.proofs.Common.{arith}
 use Rattle.unwind.specs.OutcomeLaws.{element_places, element_around, element_put}
 use Rattle.unwind.proofs.unwind.put_element.Goals as goal
 

@@ -1,5 +1,4 @@
 -- The proof of unwind::unwind::put_outcome, by answers to its goals.
-use Rattle.std.proofs.Common.{rules, arith}
 use Rattle.unwind.specs.OutcomeLaws.{outcome_past, outcome_written}
 use Rattle.unwind.proofs.unwind.put_outcome.Goals as goal
 

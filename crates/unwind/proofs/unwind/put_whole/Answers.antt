@@ -1,5 +1,4 @@
 -- The proof of unwind::unwind::put_whole, by answers to its goals.
-use Rattle.std.proofs.Common.{rules, arith}
 use Rattle.unwind.specs.OutcomeLaws.{whole_past, whole_written}
 use Rattle.unwind.proofs.unwind.put_whole.Goals as goal
 

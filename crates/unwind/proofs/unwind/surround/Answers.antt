@@ -1,5 +1,5 @@
 -- The proof of unwind::unwind::surround, by answers to its goals.
-use Rattle.std.proofs.Common.{arith, rules}
+use Rattle.std.proofs.Common.{arith}
 use Rattle.areas.specs.AreaLaws.{finishable}
 use Rattle.unwind.specs.OutcomeLaws.{around_behind, around_end, surround_large, surround_at}
 use Rattle.unwind.proofs.unwind.surround.Goals as goal

@@ -21,11 +21,11 @@ use Rattle.spec_stages.specs.Group.{key, same_key, sum, aggregate}
 use Rattle.spec_stages.specs.Stages.{performed}
 use Rattle.spec_stages.specs.Keys.{once, ranked, keys, sharing, shown, made}
 use Rattle.spec_stages.specs.Trays.{Tray, inputs, results, GroupGives}
-use Rattle.spec_stages.specs.AlikeLaws.{same_key_lem}
+use Rattle.spec_stages.proofs.AlikeLaws.{same_key_lem}
 use Rattle.spec_stages.specs.OnceLaws.{ranked_gather}
-use Rattle.spec_stages.specs.KeysLaws.{KeyOf, keys_of, keys_sharing, once_shared, group_told}
-use Rattle.spec_stages.specs.PathLaws.{joins_append}
-use Rattle.spec_stages.specs.ReadLaws.{made_reads}
+use Rattle.spec_stages.proofs.KeysLaws.{KeyOf, keys_of, keys_sharing, once_shared, group_told}
+use Rattle.spec_stages.proofs.PathLaws.{joins_append}
+use Rattle.spec_stages.proofs.ReadLaws.{made_reads}
 
 -- ---- what an aggregate takes, part by part
 -- the class of one key in one tray: its tree, and its members

@@ -14,7 +14,7 @@ use Rattle.spec_queries.specs.Rules.{OkS}
 use Rattle.spec_stages.specs.Group.{grouped, totals_fit}
 use Rattle.spec_stages.specs.Stages.{is_group, performed, leaving, after, Halt, too_long, overflow, State, going, large, halted, entering, step, stages}
 use Rattle.spec_stages.specs.Join.{in_turn, GroupFree}
-use Rattle.spec_stages.specs.JoinLaws.{step_going, stages_each, stages_append}
+use Rattle.spec_stages.proofs.JoinLaws.{step_going, stages_each, stages_append}
 use Rattle.spec_stages.specs.Stretch.{before, behind, stretches, decided}
 
 pub before_behind : (ss : List Stage) → before ss ++ behind ss ≡ ss

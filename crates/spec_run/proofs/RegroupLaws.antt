@@ -16,7 +16,7 @@ use Rattle.spec_trees.specs.Readers.{accepted}
 use Rattle.spec_trees.specs.Decode.{read_array}
 use Rattle.spec_trees.specs.Within.{AllBytes, Within}
 use Rattle.spec_trees.specs.OptionLaws.{leb_yes}
-use Rattle.spec_trees.specs.ArrayLaws.{array_only, array_back, read_array_lem}
+use Rattle.spec_trees.proofs.ArrayLaws.{array_only, array_back, read_array_lem}
 use Rattle.spec_queries.specs.Query.{Pair, Stage, group}
 use Rattle.spec_queries.specs.Bytes.{query_bytes}
 use Rattle.spec_queries.specs.Decode.{read_query}
@@ -27,13 +27,13 @@ use Rattle.spec_queries.specs.RegroupingLaws.{regrouping_ok}
 use Rattle.spec_queries.specs.QueryLaws.{query_only, query_back, read_query_lem}
 use Rattle.spec_stages.specs.Stages.{too_long, going, halted, entering, performed, step, stages}
 use Rattle.spec_stages.specs.Positions.{result_positions}
-use Rattle.spec_stages.specs.LeaveLaws.{group_long}
-use Rattle.spec_stages.specs.KeepLaws.{stages_allowed}
+use Rattle.spec_stages.proofs.LeaveLaws.{group_long}
+use Rattle.spec_stages.proofs.KeepLaws.{stages_allowed}
 use Rattle.spec_run.specs.declared.answer.Refusal.{Refusal}
 use Rattle.spec_run.specs.declared.answer.Refusal.TheVariants.{WorkShort, QueryLong, QueryMalformed, InputLong, InputMalformed, GroupLong}
 use Rattle.spec_run.specs.Run.{call, Verdict, gives, refused, reading, asking, refusal_at, final, outcome_of, plain_run}
 use Rattle.spec_run.specs.Regroup.{RegroupCall, regroup_verdict_of, regroup_verdict, plain_regroup}
-use Rattle.spec_run.specs.RunLaws.{reads_verdict, reading_out, cond_out, final_out, accepts_gives, outcome_same, Short, outcome_short, bytes_short}
+use Rattle.spec_run.proofs.RunLaws.{reads_verdict, reading_out, cond_out, final_out, accepts_gives, outcome_same, Short, outcome_short, bytes_short}
 
 -- ---- the tests passed: the query is one group alone, s is its regrouping, and the arrays hold these trees
 pub record RegroupReads (c : RegroupCall) (ss : List Stage) (s : Stage) (ts us : List Tree) : Type 0 where

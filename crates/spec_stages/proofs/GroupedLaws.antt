@@ -23,7 +23,7 @@ use Rattle.spec_stages.specs.Flat.{members, flat}
 use Rattle.spec_stages.specs.PermutesLaws.{permutes_self, equal_permutes, permutes_equal, permutes_append, permutes_gather, filter_parts}
 use Rattle.spec_stages.specs.SumsLaws.{added_permutes, added_gather}
 use Rattle.spec_stages.specs.EquivalenceLaws.{same_right}
-use Rattle.spec_stages.specs.AlikeLaws.{alike_equivalence, sum_below}
+use Rattle.spec_stages.proofs.AlikeLaws.{alike_equivalence, sum_below}
 use Rattle.spec_stages.specs.OnceLaws.{gather_upto}
 
 -- ---- the classes of an equivalence hold the trees that are unlike those seen before

@@ -18,9 +18,9 @@ use Rattle.spec_stages.specs.Unwind.{holding, unwound}
 use Rattle.spec_stages.specs.Project.{projected}
 use Rattle.spec_stages.specs.Lookup.{looked}
 use Rattle.spec_stages.specs.Stages.{performed, leaving, entering, going, large, after, step, stages}
-use Rattle.spec_stages.specs.KeepLaws.{stages_allowed}
+use Rattle.spec_stages.proofs.KeepLaws.{stages_allowed}
 use Rattle.spec_trees.specs.FindLaws.{put_first, put_later, found_cases}
-use Rattle.spec_stages.specs.UnwoundLaws.{unwound_leaves, unwound_one}
+use Rattle.spec_stages.proofs.UnwoundLaws.{unwound_leaves, unwound_one}
 
 pub fits_of : {x : Tree} → Allowed depth_max x → fits x ≡ true
 unfolding fits

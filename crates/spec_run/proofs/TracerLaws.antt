@@ -11,7 +11,7 @@ use Rattle.spec_trees.specs.Bytes.{array_bytes}
 use Rattle.spec_trees.specs.Within.{Within}
 use Rattle.spec_trees.specs.OptionLaws.{leb_yes, leb_no, split}
 use Rattle.spec_tracer.specs.Traced.{traced}
-use Rattle.spec_tracer.specs.TracedLaws.{traced_max, traced_size, traced_within, traced_accepted}
+use Rattle.spec_tracer.proofs.TracedLaws.{traced_max, traced_size, traced_within, traced_accepted}
 use Rattle.spec_run.specs.declared.answer.Refusal.{Refusal}
 use Rattle.spec_run.specs.declared.answer.Refusal.TheVariants.{MessageMalformed, ResultLong}
 use Rattle.spec_run.specs.Refusal.{keeps_result, keeps_work}
@@ -19,7 +19,7 @@ use Rattle.spec_run.specs.Run.{Verdict, gives, refused, asking, final, zeros, nu
 use Rattle.spec_run.specs.Tracer.{tracer_verdict, plain_tracer}
 use Rattle.spec_run.specs.Answer.{Traced}
 use Rattle.spec_run.specs.AnswerLaws.{AnsweredBy}
-use Rattle.spec_run.specs.RunLaws.{Short, outcome_short, bytes_short, result_is}
+use Rattle.spec_run.proofs.RunLaws.{Short, outcome_short, bytes_short, result_is}
 
 -- ---- the verdict, by what becomes of the message
 pub tracer_none : (m : List ℕ) (room : ℕ) → traced m ≡ none → tracer_verdict m room ≡ refused MessageMalformed

@@ -11,7 +11,7 @@ use Rattle.spec_trees.specs.Decode.{decode_array}
 use Rattle.spec_trees.specs.Within.{Within}
 use Rattle.spec_trees.specs.Options.{only}
 use Rattle.spec_trees.specs.OptionLaws.{some_equal}
-use Rattle.spec_trees.specs.ArrayLaws.{array_back, read_array_lem}
+use Rattle.spec_trees.proofs.ArrayLaws.{array_back, read_array_lem}
 use Rattle.spec_queries.specs.Query.{Pair, Stage, group}
 use Rattle.spec_queries.specs.Again.{regroups, regrouped, regrouping}
 use Rattle.spec_queries.specs.QueryLaws.{read_query_lem}
@@ -19,13 +19,13 @@ use Rattle.spec_stages.specs.Stages.{going, stages}
 use Rattle.spec_stages.specs.Join.{GroupFree}
 use Rattle.spec_stages.specs.Positions.{result_positions}
 use Rattle.spec_stages.specs.Trays.{Tray, tray_of, inputs, results, TrayRun, Grouped, Folded, nothing, alone, paired}
-use Rattle.spec_stages.specs.TrayLaws.{trays_join, run_grouped, grouped_same, runs_regroup, folded_regroup}
+use Rattle.spec_stages.proofs.TrayLaws.{trays_join, run_grouped, grouped_same, runs_regroup, folded_regroup}
 use Rattle.spec_run.specs.Run.{call, result_bytes}
 use Rattle.spec_run.specs.Regroup.{regroup_call}
 use Rattle.spec_run.specs.Answer.{Answered}
 use Rattle.spec_run.specs.Day.{IsQuery, IsArray, RanTray, RegroupedTwo, Day, empty, one, both}
-use Rattle.spec_run.specs.RunLaws.{Gives, accepted_out, accepted_is, accepted_within, result_is}
-use Rattle.spec_run.specs.RegroupLaws.{accepted_regroup, regroup_is, regroup_within}
+use Rattle.spec_run.proofs.RunLaws.{Gives, accepted_out, accepted_is, accepted_within, result_is}
+use Rattle.spec_run.proofs.RegroupLaws.{accepted_regroup, regroup_is, regroup_within}
 
 -- what the result bytes are read as is what was written
 read_back : (b : List ℕ) (fs rs : List Tree) → b ≡ array_bytes fs → Within fs → decode_array b ≡ some rs → fs ≡ rs

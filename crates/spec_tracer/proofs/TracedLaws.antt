@@ -14,7 +14,7 @@ use Rattle.spec_trees.specs.Size.{root_size, size, size_a, size_l, depth, depth_
 use Rattle.spec_trees.specs.Readers.{accepted}
 use Rattle.spec_trees.specs.Decode.{read_array}
 use Rattle.spec_trees.specs.Within.{OkA, OkL, Within}
-use Rattle.spec_trees.specs.ArrayLaws.{array_back, read_array_lem}
+use Rattle.spec_trees.proofs.ArrayLaws.{array_back, read_array_lem}
 use Rattle.spec_tracer.specs.Limits.{message_max}
 use Rattle.spec_tracer.specs.Message.{is_value, Line, is_line}
 use Rattle.spec_tracer.specs.Reading.{message}
@@ -22,7 +22,7 @@ use Rattle.spec_tracer.specs.Values.{value_tree}
 use Rattle.spec_tracer.specs.Traced.{label_named, lines_for, once, labelled, labels_from, message_tree, traced}
 use Rattle.spec_tracer.specs.LineLaws.{line_formed}
 use Rattle.spec_tracer.specs.MessageLaws.{InForm, message_formed}
-use Rattle.spec_tracer.specs.ValueLaws.{value_bare}
+use Rattle.spec_tracer.proofs.ValueLaws.{value_bare}
 
 -- ---- what a message is read as
 pub record Tracing (m : List ℕ) (t : Tree) : Type 0 where

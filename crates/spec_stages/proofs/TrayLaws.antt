@@ -18,9 +18,9 @@ use Rattle.spec_stages.specs.Group.{having, classes, upto, grouped, class_tree}
 use Rattle.spec_stages.specs.Stages.{performed, going, stages}
 use Rattle.spec_stages.specs.Join.{beside, in_turn, GroupFree}
 use Rattle.spec_stages.specs.Trays.{Tray, tray_of, inputs, results, TrayRun, GroupGives, Grouped, Folded, nothing, alone, paired}
-use Rattle.spec_stages.specs.JoinLaws.{stages_join, stages_each, stages_append}
+use Rattle.spec_stages.proofs.JoinLaws.{stages_join, stages_each, stages_append}
 use Rattle.spec_stages.specs.GoingLaws.{step_accepted, stages_going}
-use Rattle.spec_stages.specs.RegroupLaws.{regroup_law}
+use Rattle.spec_stages.proofs.RegroupLaws.{regroup_law}
 
 -- ---- group-free queries
 pub trays_join : (us : List Tree) (ss : List Stage) → GroupFree ss → (ks : List Tray) → All (TrayRun us ss) ks → TrayRun us ss (tray_of (inputs ks) (results ks))

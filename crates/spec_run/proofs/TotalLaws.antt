@@ -20,16 +20,16 @@ use Rattle.spec_stages.specs.Totals.{total}
 use Rattle.spec_stages.specs.Group.{grouped}
 use Rattle.spec_stages.specs.Stages.{too_long, overflow, State, going, halted, entering, performed, leaving, after, step, stages}
 use Rattle.spec_stages.specs.Trays.{Tray}
-use Rattle.spec_stages.specs.TrayLaws.{run_grouped}
+use Rattle.spec_stages.proofs.TrayLaws.{run_grouped}
 use Rattle.spec_stages.specs.FitLaws.{plain_fits}
-use Rattle.spec_stages.specs.TotalReadLaws.{group_totals}
+use Rattle.spec_stages.proofs.TotalReadLaws.{group_totals}
 use Rattle.spec_run.specs.declared.answer.Refusal.{Refusal}
 use Rattle.spec_run.specs.declared.answer.Refusal.TheVariants.{WorkShort, QueryLong, QueryMalformed, InputLong, InputMalformed, TotalLarge, ResultLong}
 use Rattle.spec_run.specs.Refusal.{number_of}
 use Rattle.spec_run.specs.Run.{Verdict, gives, refused, reading, asking, refusal_at, final, number_in}
 use Rattle.spec_run.specs.Regroup.{RegroupCall, regroup_verdict_of, regroup_verdict}
 use Rattle.spec_run.specs.Day.{IsQuery, IsArray, RanTray}
-use Rattle.spec_run.specs.DayLaws.{ran_tray}
+use Rattle.spec_run.proofs.DayLaws.{ran_tray}
 
 -- ---- the query ends in a group whose destinations are single labels, no two equal
 module _ {q j : List ℕ} (ss : List Stage) {us : List Tree} (ag gs : List Pair) (iq : IsQuery q (ss ++ (group ag gs ∷ []))) (ij : IsArray j us)

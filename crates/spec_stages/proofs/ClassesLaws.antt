@@ -12,7 +12,7 @@ use Rattle.spec_trees.specs.Tree.{Tree}
 use Rattle.spec_queries.specs.Query.{Pair}
 use Rattle.spec_stages.specs.Group.{key, alike, sum, having, classes, upto, grouped}
 use Rattle.spec_stages.specs.Classes.{unlike, begins, scan}
-use Rattle.spec_stages.specs.AlikeLaws.{alike_keys}
+use Rattle.spec_stages.proofs.AlikeLaws.{alike_keys}
 
 -- ---- booleans
 and_last : (a b : Bool) → (b && a) ≡ (a && (b && true))

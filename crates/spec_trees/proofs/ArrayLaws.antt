@@ -16,8 +16,8 @@ use Rattle.spec_trees.specs.Readers.{Reader, fields, inside, one, chosen, among,
 use Rattle.spec_trees.specs.Decode.{signed, bit, root_table, root_r, array_with, label_c, label_r, labels_with, tree_c, tree_r, array_r, decode_array, read_array}
 use Rattle.spec_trees.specs.Within.{AllBytes, OkR, Ok, OkA, OkL, Allowed, AllowedA, Within}
 use Rattle.spec_trees.specs.OptionLaws.{T_true, leb_yes, ltb_yes, only_some, map_some, bind_some}
-use Rattle.spec_trees.specs.FieldLaws.{bytes_one, fields_bytes, BytesF, parts}
-use Rattle.spec_trees.specs.ReaderLaws.{Law, field_eq, OneOf, among_some, tagged_some, emptied_some, one_back, one_form, all_back, all_form, tested_only, tested_overlong, malformed_form}
+use Rattle.spec_trees.proofs.FieldLaws.{bytes_one, fields_bytes, BytesF, parts}
+use Rattle.spec_trees.proofs.ReaderLaws.{Law, field_eq, OneOf, among_some, tagged_some, emptied_some, one_back, one_form, all_back, all_form, tested_only, tested_overlong, malformed_form}
 use Rattle.spec_trees.specs.NumberLaws.{length_big, big_back, big_form, big_lt, signed_back, signed_form, pattern_lt}
 use Rattle.spec_trees.specs.SizeLaws.{trees_list, list_trees, length_tree_f, length_array, tree_fs_map}
 

@@ -8,7 +8,7 @@ use Rattle.spec_trees.specs.Readers.{Tested, accepted}
 use Rattle.spec_trees.specs.Decode.{decode_array, read_array}
 use Rattle.spec_trees.specs.Within.{AllBytes, Within}
 use Rattle.spec_trees.specs.OptionLaws.{some_equal}
-use Rattle.spec_trees.specs.ArrayLaws.{array_back, read_array_lem}
+use Rattle.spec_trees.proofs.ArrayLaws.{array_back, read_array_lem}
 use Rattle.spec_queries.specs.Query.{Stage}
 use Rattle.spec_queries.specs.Bytes.{query_bytes}
 use Rattle.spec_queries.specs.Decode.{decode_query, read_query}
@@ -17,10 +17,10 @@ use Rattle.spec_queries.specs.Rules.{OkQ}
 use Rattle.spec_queries.specs.CutLaws.{first_allowed, second_allowed}
 use Rattle.spec_stages.specs.Stages.{going}
 use Rattle.spec_stages.specs.Positions.{result_positions}
-use Rattle.spec_stages.specs.JoinLaws.{stages_append}
+use Rattle.spec_stages.proofs.JoinLaws.{stages_append}
 use Rattle.spec_run.specs.Run.{Call, call, gives, Outcome, number_in, length_in, outcome_of, plain_run, result_bytes}
 use Rattle.spec_run.specs.Cut.{Cut, SameAnswer}
-use Rattle.spec_run.specs.RunLaws.{Gives, accepted_out, accepted_is, result_is, accepted_within}
+use Rattle.spec_run.proofs.RunLaws.{Gives, accepted_out, accepted_is, result_is, accepted_within}
 
 -- ---- an admitted query can be cut anywhere
 pub cut_at : (ss : List Stage) → OkQ ss → (k : ℕ) → Cut (query_bytes ss) (query_bytes (take k ss)) (query_bytes (drop k ss))

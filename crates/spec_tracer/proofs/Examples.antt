@@ -11,7 +11,7 @@ use Rattle.spec_tracer.specs.Message.{is_capital, is_digit, is_name_byte, is_val
 use Rattle.spec_tracer.specs.Reading.{piece, expect, name, value, second, values, line, lines, message}
 use Rattle.spec_tracer.specs.Values.{digit, decimal, parts, fraction, amount, hundredths, value_root, value_tree}
 use Rattle.spec_tracer.specs.Traced.{names, label_among, label_named, lines_for, once_from, once, labelled, labels_from, message_tree, traced}
-use Rattle.spec_tracer.specs.TracedLaws.{traced_max}
+use Rattle.spec_tracer.proofs.TracedLaws.{traced_max}
 
 -- under these names all definitions compute
 unfoldable abbrev pub root_of : ℕ → List ℕ → Root

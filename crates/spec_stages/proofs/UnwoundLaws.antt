@@ -21,7 +21,7 @@ use Rattle.spec_queries.specs.Query.{Path, unwind}
 use Rattle.spec_queries.specs.Rules.{OkP}
 use Rattle.spec_stages.specs.Unwind.{holding, unwound}
 use Rattle.spec_stages.specs.Stages.{performed, leaving, entering, after, step, stages}
-use Rattle.spec_stages.specs.KeepLaws.{stages_allowed}
+use Rattle.spec_stages.proofs.KeepLaws.{stages_allowed}
 
 -- ---- an array put in the place of another
 module _ (k : ℕ) (a : List Tree) where

@@ -17,7 +17,7 @@ use Rattle.spec_stages.specs.Group.{grouped, aggregate}
 use Rattle.spec_stages.specs.Permutes.{Permutes}
 use Rattle.spec_stages.specs.Flat.{members, flat}
 use Rattle.spec_stages.specs.SumsLaws.{added_append, added_permutes, added_gather, added_same}
-use Rattle.spec_stages.specs.GroupedLaws.{grouped_permutes}
+use Rattle.spec_stages.proofs.GroupedLaws.{grouped_permutes}
 
 -- ---- joined lists
 pub sum_append : (ys zs : List ℤ) → sum_of (ys ++ zs) ≡ totals.plus (sum_of ys) (sum_of zs)

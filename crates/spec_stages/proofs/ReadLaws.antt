@@ -17,7 +17,7 @@ use Rattle.spec_stages.specs.Merge.{merge, merge_a, merge_l, build}
 use Rattle.spec_stages.specs.Project.{place_at, placed}
 use Rattle.spec_stages.specs.Group.{aggregate}
 use Rattle.spec_stages.specs.Keys.{shown, made}
-use Rattle.spec_stages.specs.PathLaws.{apply_label}
+use Rattle.spec_stages.proofs.PathLaws.{apply_label}
 
 -- ---- labels
 -- of two trees merged, one without the label

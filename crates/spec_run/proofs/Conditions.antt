@@ -14,7 +14,7 @@ use Rattle.spec_trees.specs.Tree.{Tree}
 use Rattle.spec_trees.specs.Size.{array_size, fits}
 use Rattle.spec_trees.specs.Bytes.{array_bytes}
 use Rattle.spec_trees.specs.Within.{Allowed, AllowedA, Within}
-use Rattle.spec_trees.specs.ArrayLaws.{array_back, read_array_lem}
+use Rattle.spec_trees.proofs.ArrayLaws.{array_back, read_array_lem}
 use Rattle.spec_queries.specs.Query.{Path, Criterion, Item, Pair, Stage, match, unwind, project, group, lookup}
 use Rattle.spec_queries.specs.Bytes.{query_bytes}
 use Rattle.spec_queries.specs.Rules.{OkQ}
@@ -26,11 +26,11 @@ use Rattle.spec_stages.specs.Lookup.{looked}
 use Rattle.spec_stages.specs.Group.{grouped, class_tree, totals_fit}
 use Rattle.spec_stages.specs.Stages.{too_long, overflow, State, going, halted, entering, performed, leaving, after, step, stages}
 use Rattle.spec_stages.specs.Positions.{result_positions}
-use Rattle.spec_stages.specs.UnwoundLaws.{unwound_allowed}
-use Rattle.spec_stages.specs.StageLaws.{fits_of}
-use Rattle.spec_stages.specs.LeaveLaws.{projected_leave, looked_leave, classes_leave}
+use Rattle.spec_stages.proofs.UnwoundLaws.{unwound_allowed}
+use Rattle.spec_stages.proofs.StageLaws.{fits_of}
+use Rattle.spec_stages.proofs.LeaveLaws.{projected_leave, looked_leave, classes_leave}
 use Rattle.spec_run.specs.Run.{Call, call, final, Outcome, outcome_of, positions_after, plain_run, plain_positions}
-use Rattle.spec_run.specs.RunLaws.{reads_verdict}
+use Rattle.spec_run.proofs.RunLaws.{reads_verdict}
 
 all_fit : (ts : List Tree) → AllowedA ts → all fits ts ≡ true
 unfolding all

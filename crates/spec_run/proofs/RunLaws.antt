@@ -12,14 +12,14 @@ use Rattle.spec_trees.specs.Readers.{Tested, accepted, overlong, malformed}
 use Rattle.spec_trees.specs.Decode.{read_array}
 use Rattle.spec_trees.specs.Within.{AllBytes, Within}
 use Rattle.spec_trees.specs.OptionLaws.{leb_yes, leb_no, T_and}
-use Rattle.spec_trees.specs.ArrayLaws.{array_only, read_array_lem}
+use Rattle.spec_trees.proofs.ArrayLaws.{array_only, read_array_lem}
 use Rattle.spec_queries.specs.Query.{Stage}
 use Rattle.spec_queries.specs.Decode.{read_query}
 use Rattle.spec_queries.specs.QueryLaws.{query_only, read_query_lem}
 use Rattle.spec_stages.specs.Stages.{State, going, large, halted, stages}
 use Rattle.spec_stages.specs.Positions.{result_positions}
-use Rattle.spec_stages.specs.PositionLaws.{result_count}
-use Rattle.spec_stages.specs.KeepLaws.{stages_allowed}
+use Rattle.spec_stages.proofs.PositionLaws.{result_count}
+use Rattle.spec_stages.proofs.KeepLaws.{stages_allowed}
 use Rattle.spec_run.specs.declared.answer.Refusal.{Refusal}
 use Rattle.spec_run.specs.declared.answer.Refusal.TheVariants.{WorkShort, PositionsShort, MessageMalformed, QueryLong, QueryMalformed, InputLong, InputMalformed, JoinedLong, JoinedMalformed, TotalLarge, TreeLarge, GroupLong, ResultLong}
 use Rattle.spec_run.specs.Refusal.{number_of, keeps_result, keeps_work}

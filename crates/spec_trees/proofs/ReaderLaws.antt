@@ -14,7 +14,7 @@ use Rattle.spec_trees.specs.Bytes.{Field, bytes}
 use Rattle.spec_trees.specs.Readers.{Reader, Table, fields, inside, one, two, three, many, chosen, among, tagged, emptied, accepted, overlong, well_formed, tested, malformed, Tested}
 use Rattle.spec_trees.specs.Within.{AllBytes}
 use Rattle.spec_trees.specs.OptionLaws.{leb_yes, true_T, only_some, map_some, bind_some, leb_no}
-use Rattle.spec_trees.specs.FieldLaws.{fields_bytes, BytesF, parts}
+use Rattle.spec_trees.proofs.FieldLaws.{fields_bytes, BytesF, parts}
 use borrow.Author.Tests.{leb-false, leb-true}
 
 -- r reads, w writes, P says what is allowed

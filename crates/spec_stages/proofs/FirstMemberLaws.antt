@@ -14,7 +14,7 @@ use Rattle.spec_stages.specs.Group.{key, alike, sum, having, classes, upto, grou
 use Rattle.spec_stages.specs.Positions.{Borne, unmarked, BorneClass, unmarked_class, borne_having, borne_classes, borne_grouped, origin}
 use Rattle.spec_stages.specs.Equivalence.{Equivalence}
 use Rattle.spec_stages.specs.EquivalenceLaws.{turned}
-use Rattle.spec_stages.specs.AlikeLaws.{alike_keys, alike_equivalence}
+use Rattle.spec_stages.proofs.AlikeLaws.{alike_keys, alike_equivalence}
 
 -- ---- positions forgotten, they are the classes of the trees
 module _ (e : Tree → Tree → Bool) where

@@ -20,7 +20,7 @@ use Rattle.spec_stages.specs.Stages.{performed, is_group, going, large, after, s
 use Rattle.spec_stages.specs.Join.{GroupFree}
 use Rattle.spec_stages.specs.Positions.{Borne, unmarked, marked, numbered, sole, onward, carry, carried, result_positions, lines, bearing}
 use Rattle.spec_stages.specs.GoingLaws.{stages_going}
-use Rattle.spec_stages.specs.PositionLaws.{marked_bear, carried_marked, result_lines}
+use Rattle.spec_stages.proofs.PositionLaws.{marked_bear, carried_marked, result_lines}
 
 -- ---- one stage
 -- what a stage makes of a tree alone, which bears that tree's position

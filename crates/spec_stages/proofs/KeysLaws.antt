@@ -21,7 +21,7 @@ use Rattle.spec_stages.specs.Project.{placed}
 use Rattle.spec_stages.specs.Group.{key, same_key, alike, sum, having, Class, classes, upto, grouped, aggregated, identified, sourced, class_tree}
 use Rattle.spec_stages.specs.Stages.{performed}
 use Rattle.spec_stages.specs.Keys.{without, once, ranked, keys, sharing, shown, made}
-use Rattle.spec_stages.specs.AlikeLaws.{same_key_lem, sum_below}
+use Rattle.spec_stages.proofs.AlikeLaws.{same_key_lem, sum_below}
 use Rattle.spec_stages.specs.OnceLaws.{All-once, once_equal, All-ranked, ranked_equal}
 
 -- ---- keys

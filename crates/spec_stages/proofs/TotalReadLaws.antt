@@ -16,9 +16,9 @@ use Rattle.spec_stages.specs.Totals.{given_integers, sum_of, total, totals}
 use Rattle.spec_stages.specs.Group.{Class, key, grouped, aggregate, class_tree}
 use Rattle.spec_stages.specs.Flat.{members}
 use Rattle.spec_stages.specs.Stages.{performed}
-use Rattle.spec_stages.specs.KeysLaws.{made_told}
-use Rattle.spec_stages.specs.ReadLaws.{made_reads}
-use Rattle.spec_stages.specs.TotalsLaws.{total_added, placed_add}
+use Rattle.spec_stages.proofs.KeysLaws.{made_told}
+use Rattle.spec_stages.proofs.ReadLaws.{made_reads}
+use Rattle.spec_stages.proofs.TotalsLaws.{total_added, placed_add}
 
 module _ (ag gs : List Pair) (d : distinct_targets ag gs ≡ true) where
   -- under each destination the tree of a class has what the aggregate takes from the members

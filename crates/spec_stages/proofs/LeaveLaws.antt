@@ -17,7 +17,7 @@ use Rattle.spec_stages.specs.Project.{item, projected}
 use Rattle.spec_stages.specs.Lookup.{looked}
 use Rattle.spec_stages.specs.Group.{Class, aggregated, identified, sourced, class_tree, grouped, totals_fit}
 use Rattle.spec_stages.specs.Stages.{too_long, overflow, going, halted, entering, performed, leaving, after, step}
-use Rattle.spec_stages.specs.StageLaws.{fits_of, build_fits, void_fits}
+use Rattle.spec_stages.proofs.StageLaws.{fits_of, build_fits, void_fits}
 
 -- trees that fit leave as they are
 pub each_fits : {A : Type 0} (P : A → Type 0) (f : A → Option Tree) → ((a : A) (y : Tree) → P a → f a ≡ some y → fits y ≡ true)

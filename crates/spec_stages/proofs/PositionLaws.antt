@@ -21,7 +21,7 @@ use Rattle.spec_stages.specs.Stages.{performed, going, step, stages}
 use Rattle.spec_stages.specs.Positions.{Borne, positions, unmarked, marked, numbered}
 use Rattle.spec_stages.specs.Positions.{BorneClass, unmarked_class, borne_grouped, sole, onward, carry, carried, result_positions, origin, lines}
 use Rattle.spec_stages.specs.GoingLaws.{step_accepted, stages_going}
-use Rattle.spec_stages.specs.FirstMemberLaws.{grouped_trees, Members, class_members, origin_first}
+use Rattle.spec_stages.proofs.FirstMemberLaws.{grouped_trees, Members, class_members, origin_first}
 
 -- ---- positions given and forgotten
 pub marked_trees : (n : ℕ) (ts : List Tree) → unmarked (marked n ts) ≡ ts

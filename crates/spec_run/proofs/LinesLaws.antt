@@ -8,13 +8,13 @@ use Rattle.spec_trees.specs.Tree.{Tree}
 use Rattle.spec_queries.specs.Query.{Stage}
 use Rattle.spec_stages.specs.Join.{GroupFree}
 use Rattle.spec_stages.specs.Positions.{Borne, unmarked, numbered, carried, result_positions, lines, bearing}
-use Rattle.spec_stages.specs.PositionLaws.{lines_front, result_trees, result_lines, carried_within}
-use Rattle.spec_stages.specs.LocalLaws.{carried_local}
+use Rattle.spec_stages.proofs.PositionLaws.{lines_front, result_trees, result_lines, carried_within}
+use Rattle.spec_stages.proofs.LocalLaws.{carried_local}
 use Rattle.spec_run.specs.Run.{call}
 use Rattle.spec_run.specs.Day.{IsQuery, IsArray}
 use Rattle.spec_run.specs.Lines.{RanLines}
-use Rattle.spec_run.specs.RunLaws.{accepted_positions}
-use Rattle.spec_run.specs.DayLaws.{answered_gives}
+use Rattle.spec_run.proofs.RunLaws.{accepted_positions}
+use Rattle.spec_run.proofs.DayLaws.{answered_gives}
 
 module _ {q j : List ℕ} {ss : List Stage} {us : List Tree} (iq : IsQuery q ss) (ij : IsArray j us) where
   module _ {ts : List Tree} {ls : List Borne} (run : RanLines q j ts ls) where

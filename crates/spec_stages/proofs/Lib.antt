@@ -1,0 +1,20 @@
+-- What follows from the definitions alone.
+pub mod PathLaws
+pub mod KeepLaws
+pub mod JoinLaws
+pub mod UnwoundLaws
+pub mod StageLaws
+pub mod StretchLaws
+pub mod LeaveLaws
+pub mod AlikeLaws
+pub mod ClassesLaws
+pub mod GroupedLaws
+pub mod TotalsLaws
+pub mod KeysLaws
+pub mod ReadLaws
+pub mod TotalReadLaws
+pub mod RegroupLaws
+pub mod TrayLaws
+pub mod FirstMemberLaws
+pub mod PositionLaws
+pub mod LocalLaws

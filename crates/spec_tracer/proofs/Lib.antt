@@ -1,0 +1,4 @@
+-- What follows from the definitions alone.
+pub mod ValueLaws
+pub mod TracedLaws
+pub mod Examples

@@ -1,0 +1,4 @@
+-- What follows from the definitions alone.
+pub mod FieldLaws
+pub mod ReaderLaws
+pub mod ArrayLaws
