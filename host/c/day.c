@@ -4,7 +4,7 @@
  * joined to the list so far by tquery_regroup, with the query's last stage, the
  * group, alone.
  *
- * From the repository's top: rt staticlib tquery, and then
+ * From the repository's top: host/library, and then
  *
  *     cc -I include host/c/day.c -L target/staticlib -ltquery -o day && ./day
  */

@@ -3,7 +3,7 @@
  * were cut, and the length of all their edges together. In front stands the
  * position of the first record of the job.
  *
- * From the repository's top: rt staticlib tquery, and then
+ * From the repository's top: host/library, and then
  *
  *     cc -I include host/c/totals.c -L target/staticlib -ltquery -o totals && ./totals
  */

@@ -3,7 +3,7 @@
  * a diameter, the widths and diameters in millimetres, with the blank that is
  * set aside for the job. In front stands the position of its first message.
  *
- * From the repository's top: rt staticlib tquery, and then
+ * From the repository's top: host/library, and then
  *
  *     cc -I include host/c/tracer.c -L target/staticlib -ltquery -o tracer && ./tracer
  */

@@ -3,7 +3,7 @@
  * for each eye, with the shelf that the lens lies on and, in front, the
  * position of the job that it stems from.
  *
- * From the repository's top: rt staticlib tquery, and then
+ * From the repository's top: host/library, and then
  *
  *     cc -I include host/c/worklist.c -L target/staticlib -ltquery -o worklist && ./worklist
  */

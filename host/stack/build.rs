@@ -1,4 +1,4 @@
-//! Links the engine's static library, which `rt staticlib tquery` writes.
+//! Links the engine's static library, which `host/library` writes.
 
 fn main() {
     let here = std::env::var("CARGO_MANIFEST_DIR").expect("cargo says where the crate is");

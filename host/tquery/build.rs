@@ -1,4 +1,4 @@
-//! Links the engine's static library, which `rt staticlib tquery` proves and writes.
+//! Links the engine's static library, which `host/library` proves and writes.
 
 use std::env;
 use std::path::PathBuf;
@@ -16,7 +16,7 @@ fn main() {
             println!("cargo::rustc-link-lib=static=tquery");
         }
         _ => println!(
-            "cargo::error=the engine's library is not at {}: run `rt staticlib tquery` at the top of the repository to make it",
+            "cargo::error=the engine's library is not at {}: run `host/library` at the top of the repository to make it",
             library.display()
         ),
     }

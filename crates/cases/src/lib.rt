@@ -3,6 +3,6 @@
 #![tactic(auto)]
 
 pub mod comparing;
-pub mod positions;
+pub mod position_area;
 pub mod report;
 pub mod trial;

@@ -1,6 +1,6 @@
 //! The call of a case, and whether all that is seen of it is as expected. The work area is full of 170 before a call,
 //! the result area full of 187 and the position area full of 43690, so that whatever changed is seen.
-use crate::positions::{FILLED, entries_are};
+use crate::position_area::{FILLED, entries_are};
 use compare::compare::same_bytes;
 use engine::answer::{check_number, length, number};
 use engine::regroup::regroup;

@@ -1,6 +1,6 @@
 //! One turn: a record is read and its case run and compared.
 use crate::record::{Part, read_number, read_part};
-use cases::positions::least_entries;
+use cases::position_area::least_entries;
 use cases::trial::{Call, Case, Verdict, compare, compare_message};
 use std::io;
 use std::io::Read;

@@ -1,6 +1,6 @@
 //! A row: its name, its call with the arguments, and what is expected.
 use cases::comparing::compare_copy;
-use cases::positions::least_entries;
+use cases::position_area::least_entries;
 use cases::trial::{Call, Case, Check, Verdict, compare, compare_check, compare_message};
 use row_text::lines::{begins, line_end, next_line};
 use row_text::parts::{front, part};
