@@ -25,7 +25,7 @@ use Rattle.spec_run.specs.Refusal.{keeps_result}
 use Rattle.spec_run.specs.declared.answer.Answer.{Answer}
 use Rattle.spec_run.specs.declared.answer.Answer.TheVariants.{Accepted, Refused}
 use Rattle.spec_run.specs.Run.{Verdict, gives, refused, refusal_at, final, number_in, length_in, zeros, positions_after}
-use Rattle.spec_run.proofs.RunLaws.{refusal_number, accepts_gives, final_out}
+use Rattle.spec_run.proofs.RunLaws.{refusal_most, accepts_gives, final_out}
 use Rattle.spec_run.specs.Answer.{numbered, lengthened}
 use Rattle.finish.specs.Lines.{ComesTo, LinesReady, Lines}
 use Rattle.finish.specs.FinishLaws.{bytes_size, held_length}
@@ -111,5 +111,5 @@ unfolding zeros
 refused_lines {t = t} entries z e x h =
     let y = h.verdict_is in
     let l : 0 < number_in (final h.room (positions h.borne) h.state) =
-    omega (arith, (refusal_number t).0, sym (ap numbered z) ∙ h.number_is ∙ ap number_in y) in
+    omega (arith, (refusal_most t).0, sym (ap numbered z) ∙ h.number_is ∙ ap number_in y) in
     e ∙ sym (ap (positions_after entries) y ∙ final_zero h.room (positions h.borne) h.state entries l)

@@ -16,14 +16,14 @@ use Rattle.spec_trees.proofs.ArrayLaws.{array_only, read_array_lem}
 use Rattle.spec_queries.specs.Query.{Stage}
 use Rattle.spec_queries.specs.Decode.{read_query}
 use Rattle.spec_queries.specs.QueryLaws.{query_only, read_query_lem}
-use Rattle.spec_stages.specs.Stages.{State, going, large, halted, stages}
+use Rattle.spec_stages.specs.Stages.{too_long, overflow, State, going, large, halted, stages}
 use Rattle.spec_stages.specs.Positions.{result_positions}
 use Rattle.spec_stages.proofs.PositionLaws.{result_count}
 use Rattle.spec_stages.proofs.KeepLaws.{stages_allowed}
 use Rattle.spec_run.specs.declared.answer.Refusal.{Refusal}
 use Rattle.spec_run.specs.declared.answer.Refusal.TheVariants.{WorkShort, PositionsShort, MessageMalformed, QueryLong, QueryMalformed, InputLong, InputMalformed, JoinedLong, JoinedMalformed, TotalLarge, TreeLarge, GroupLong, ResultLong}
 use Rattle.spec_run.specs.Refusal.{number_of, keeps_result, keeps_work}
-use Rattle.spec_run.specs.Run.{Call, call, Outcome, Verdict, gives, refused, reading, final, verdict_of, verdict, zeros, work_after, number_in, length_in, result_after, positions_after, outcome_of, plain_run, plain_positions, result_bytes}
+use Rattle.spec_run.specs.Run.{Call, call, Outcome, Verdict, gives, refused, reading, refusal_at, final, verdict_of, verdict, zeros, work_after, number_in, length_in, result_after, positions_after, outcome_of, plain_run, plain_positions, result_bytes}
 
 -- ---- the tests passed: what the lent pieces hold
 pub record Reads (c : Call) (ss : List Stage) (ts us : List Tree) : Type 0 where
@@ -102,27 +102,42 @@ verdict_out c b ps e =
     )
 
 -- ---- outcomes
--- a refusal's number is 1 to 13
-pub refusal_number : (r : Refusal) → (0 < number_of r) × (number_of r ≤ 13)
-refusal_number WorkShort = (omega arith, omega arith)
-refusal_number PositionsShort = (omega arith, omega arith)
-refusal_number MessageMalformed = (omega arith, omega arith)
-refusal_number QueryLong = (omega arith, omega arith)
-refusal_number QueryMalformed = (omega arith, omega arith)
-refusal_number InputLong = (omega arith, omega arith)
-refusal_number InputMalformed = (omega arith, omega arith)
-refusal_number JoinedLong = (omega arith, omega arith)
-refusal_number JoinedMalformed = (omega arith, omega arith)
-refusal_number TotalLarge = (omega arith, omega arith)
-refusal_number TreeLarge = (omega arith, omega arith)
-refusal_number GroupLong = (omega arith, omega arith)
-refusal_number ResultLong = (omega arith, omega arith)
+-- a refusal's number is 1 to 12, but for 13 of a message
+pub refusal_number : (r : Refusal) → (number_of r ≡ 13 → ⊥) → (0 < number_of r) × (number_of r ≤ 12)
+refusal_number WorkShort o = (omega arith, omega arith)
+refusal_number PositionsShort o = (omega arith, omega arith)
+refusal_number MessageMalformed o = absurd (o refl)
+refusal_number QueryLong o = (omega arith, omega arith)
+refusal_number QueryMalformed o = (omega arith, omega arith)
+refusal_number InputLong o = (omega arith, omega arith)
+refusal_number InputMalformed o = (omega arith, omega arith)
+refusal_number JoinedLong o = (omega arith, omega arith)
+refusal_number JoinedMalformed o = (omega arith, omega arith)
+refusal_number TotalLarge o = (omega arith, omega arith)
+refusal_number TreeLarge o = (omega arith, omega arith)
+refusal_number GroupLong o = (omega arith, omega arith)
+refusal_number ResultLong o = (omega arith, omega arith)
+
+pub refusal_most : (r : Refusal) → (0 < number_of r) × (number_of r ≤ 13)
+refusal_most WorkShort = (omega arith, omega arith)
+refusal_most PositionsShort = (omega arith, omega arith)
+refusal_most MessageMalformed = (omega arith, omega arith)
+refusal_most QueryLong = (omega arith, omega arith)
+refusal_most QueryMalformed = (omega arith, omega arith)
+refusal_most InputLong = (omega arith, omega arith)
+refusal_most InputMalformed = (omega arith, omega arith)
+refusal_most JoinedLong = (omega arith, omega arith)
+refusal_most JoinedMalformed = (omega arith, omega arith)
+refusal_most TotalLarge = (omega arith, omega arith)
+refusal_most TreeLarge = (omega arith, omega arith)
+refusal_most GroupLong = (omega arith, omega arith)
+refusal_most ResultLong = (omega arith, omega arith)
 
 -- number 0 is acceptance
 pub accepts_gives : (x : Verdict) → number_in x ≡ 0 → (b : List ℕ) × (ps : List ℕ) × (x ≡ gives b ps)
 unfolding number_in
 accepts_gives (gives b ps) e = (b, ps, refl)
-accepts_gives (refused r) e = absurd (omega (arith, (refusal_number r).0))
+accepts_gives (refused r) e = absurd (omega (arith, (refusal_most r).0))
 
 pub accepted_out : (c : Call) → (plain_run c).number ≡ 0
     → (ss : List Stage) × (ts : List Tree) × (us : List Tree) × (fs : List Tree) × Gives c ss ts us fs
@@ -159,27 +174,89 @@ accepted_within c ss ts us fs bq bi bj g =
     record { allowed = stages_allowed us ss ts fs k.allowed o.stages w.allowed g.ran; small = g.small }
 
 -- ---- the numbers and lengths of outcomes
-verdict_number : (x : Verdict) → number_in x ≤ 13
-unfolding number_in
-verdict_number (gives b ps) = omega arith
-verdict_number (refused r) = (refusal_number r).1
+-- 13 is the number of a message alone: no run and no regrouping comes to it
+abbrev pub NotThirteen : Verdict → Type 0
+NotThirteen x = number_in x ≡ 13 → ⊥
 
--- a number is at most 13; a result's length is that of an array within the limits, and no more than the result area's,
+pub refused_other : (r : Refusal) → (number_of r ≡ 13 → ⊥) → NotThirteen (refused r)
+unfolding number_in
+refused_other r n e = n e
+
+gives_other : (b ps : List ℕ) → NotThirteen (gives b ps)
+unfolding number_in
+gives_other b ps e = omega arith
+
+pub reading_other : {A : Type 0} (x : Tested A) (r s : Refusal) (f : A → Verdict) → NotThirteen (refused r) → NotThirteen (refused s) → ((a : A) → NotThirteen (f a))
+    → NotThirteen (reading x r s f)
+unfolding reading
+reading_other (accepted a) r s f n m k = k a
+reading_other overlong r s f n m k = n
+reading_other malformed r s f n m k = m
+
+pub cond_other : (c : Bool) (x : Verdict) (r : Refusal) → NotThirteen x → NotThirteen (refused r) → NotThirteen (cond c x (refused r))
+cond_other true x r n m = n
+cond_other false x r n m = m
+
+pub final_other : (room : ℕ) (rs : List ℕ) (x : State) → NotThirteen (final room rs x)
+unfolding final refusal_at
+final_other room rs large = refused_other TreeLarge (λ z. omega arith)
+final_other room rs (halted too_long) = refused_other GroupLong (λ z. omega arith)
+final_other room rs (halted overflow) = refused_other TotalLarge (λ z. omega arith)
+final_other room rs (going ts) =
+    cond_other (leb (array_size ts) array_max && leb (array_size ts) room) (gives (array_bytes ts) rs) ResultLong (gives_other (array_bytes ts) rs)
+    (refused_other ResultLong (λ z. omega arith))
+
+verdict_other : (c : Call) → NotThirteen (verdict c)
+unfolding verdict verdict_of
+verdict_other c =
+    cond_other (leb work_min (length c.work)) _ WorkShort
+    (cond_other (leb positions_min (length c.positions)) _ PositionsShort
+    (reading_other (read_query c.query) QueryLong QueryMalformed _ (refused_other QueryLong (λ z. omega arith)) (refused_other QueryMalformed (λ z. omega arith)) λ ss.
+    reading_other (read_array c.input) InputLong InputMalformed _ (refused_other InputLong (λ z. omega arith)) (refused_other InputMalformed (λ z. omega arith)) λ ts.
+    reading_other (read_array c.joined) JoinedLong JoinedMalformed _ (refused_other JoinedLong (λ z. omega arith)) (refused_other JoinedMalformed (λ z. omega arith)) λ us.
+    final_other (length c.result) (result_positions us ss ts) (stages us ss (going ts)))
+    (refused_other PositionsShort (λ z. omega arith)))
+    (refused_other WorkShort (λ z. omega arith))
+
+verdict_number : (x : Verdict) → NotThirteen x → number_in x ≤ 12
+unfolding number_in
+verdict_number (gives b ps) n = omega arith
+verdict_number (refused r) n = (refusal_number r n).1
+
+pub verdict_most : (x : Verdict) → number_in x ≤ 13
+unfolding number_in
+verdict_most (gives b ps) = omega arith
+verdict_most (refused r) = (refusal_most r).1
+
+-- a number is at most 12; a result's length is that of an array within the limits, and no more than the result area's,
 -- before the call and after it
 pub record Short (lent : List ℕ) (o : Outcome) : Type 0 where
-  pub number : o.number ≤ 13
+  pub number : o.number ≤ 12
+  pub array : o.length ≤ array_max
+  pub area : o.length ≤ length lent
+  pub left : o.length ≤ length o.result
+
+-- the same of lengths alone
+pub record Fitting (lent : List ℕ) (o : Outcome) : Type 0 where
   pub array : o.length ≤ array_max
   pub area : o.length ≤ length lent
   pub left : o.length ≤ length o.result
 
 -- where what the verdict gives is an array that is small and fits the area
-pub outcome_short : (area work : List ℕ) (x : Verdict) → ((b ps : List ℕ) → x ≡ gives b ps → (length b ≤ array_max) × (length b ≤ length area))
-    → Short area (outcome_of area work x)
+pub outcome_fitting : (area work : List ℕ) (x : Verdict) → ((b ps : List ℕ) → x ≡ gives b ps → (length b ≤ array_max) × (length b ≤ length area))
+    → Fitting area (outcome_of area work x)
 unfolding outcome_of length_in result_after
-outcome_short area work (gives b ps) h =
+outcome_fitting area work (gives b ps) h =
     let s = h b ps refl in
-    record { number = verdict_number (gives b ps); array = s.0; area = s.1; left = omega (arith, length-append b (drop (length b) area)) }
-outcome_short area work (refused r) h = record { number = verdict_number (refused r); array = omega arith; area = omega arith; left = omega arith }
+    record { array = s.0; area = s.1; left = omega (arith, length-append b (drop (length b) area)) }
+outcome_fitting area work (refused r) h = record { array = omega arith; area = omega arith; left = omega arith }
+
+pub outcome_short : (area work : List ℕ) (x : Verdict) → NotThirteen x → ((b ps : List ℕ) → x ≡ gives b ps → (length b ≤ array_max) × (length b ≤ length area))
+    → Short area (outcome_of area work x)
+unfolding outcome_of
+outcome_short area work x n h =
+    let f = outcome_fitting area work x h in
+    record { number = verdict_number x n; array = f.array; area = f.area; left = f.left }
 
 -- such are the bytes that an array of this size has
 pub bytes_short : (fs : List Tree) (x : Verdict) (rs b ps : List ℕ) (room : ℕ) → x ≡ gives (array_bytes fs) rs → x ≡ gives b ps → array_size fs ≤ array_max → array_size fs ≤ room
@@ -192,7 +269,7 @@ bytes_short fs x rs b ps room e f s m =
 
 pub run_short : (c : Call) → Short c.result (plain_run c)
 unfolding plain_run
-run_short c = outcome_short c.result c.work (verdict c) (λ b ps e.
+run_short c = outcome_short c.result c.work (verdict c) (verdict_other c) (λ b ps e.
     let (ss, ts, us, fs, g) = verdict_out c b ps e in
     bytes_short fs (verdict c) (result_positions us ss ts) b ps (length c.result) (gives_verdict c ss ts us fs g) e g.small g.fits)
 

@@ -19,7 +19,7 @@ use Rattle.spec_run.specs.Run.{Verdict, gives, refused, asking, final, zeros, nu
 use Rattle.spec_run.specs.Tracer.{tracer_verdict, plain_tracer}
 use Rattle.spec_run.specs.Answer.{Traced}
 use Rattle.spec_run.specs.AnswerLaws.{AnsweredBy}
-use Rattle.spec_run.proofs.RunLaws.{Short, outcome_short, bytes_short, result_is}
+use Rattle.spec_run.proofs.RunLaws.{verdict_most, Fitting, outcome_fitting, bytes_short, result_is}
 
 -- ---- the verdict, by what becomes of the message
 pub tracer_none : (m : List ℕ) (room : ℕ) → traced m ≡ none → tracer_verdict m room ≡ refused MessageMalformed
@@ -106,10 +106,14 @@ tracer_enough m area h z = go (traced m) refl
     go none e = omega (arith, z, (tracer_thirteen m area e).number_is)
     go (some t) e = omega (arith, z, (tracer_gives m area t e (omega (arith, h, traced_size m t e))).number_is)
 
--- ---- as one number: an answer's number and length are those of an outcome that is short
-pub tracer_short : (m area : List ℕ) → Short area (plain_tracer m area)
+-- ---- as one number: an answer's length is that of an outcome that fits, its number at most 13
+pub tracer_number : (m area : List ℕ) → (plain_tracer m area).number ≤ 13
+unfolding plain_tracer outcome_of
+tracer_number m area = verdict_most (tracer_verdict m (length area))
+
+pub tracer_fitting : (m area : List ℕ) → Fitting area (plain_tracer m area)
 unfolding plain_tracer
-tracer_short m area = outcome_short area [] (tracer_verdict m (length area)) (λ b ps f. go (traced m) refl b ps f)
+tracer_fitting m area = outcome_fitting area [] (tracer_verdict m (length area)) (λ b ps f. go (traced m) refl b ps f)
   where
     go : (x : Option Tree) → traced m ≡ x → (b ps : List ℕ) → tracer_verdict m (length area) ≡ gives b ps → (length b ≤ array_max) × (length b ≤ length area)
     go none e b ps f = let n = sym (tracer_none m (length area) e) ∙ f in let z : ◌≡◌ {A = ℕ} 0 1 = cc in absurd (omega arith)

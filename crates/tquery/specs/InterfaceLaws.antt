@@ -10,7 +10,7 @@ use Rattle.spec_run.specs.declared.answer.Refusal.{Refusal}
 use Rattle.spec_run.specs.declared.answer.Answer.{Answer}
 use Rattle.spec_run.specs.declared.answer.Answer.TheVariants.{Accepted, Refused}
 use Rattle.spec_run.specs.Run.{Outcome, check_number}
-use Rattle.spec_run.proofs.RunLaws.{refusal_number, Short}
+use Rattle.spec_run.proofs.RunLaws.{refusal_most, Short}
 use Rattle.spec_run.specs.Answer.{numbered}
 use Rattle.spec_run.specs.AnswerLaws.{AnsweredBy}
 use Rattle.checks.specs.Check.{checked_as}
@@ -20,18 +20,18 @@ use Rattle.tquery.specs.Interface.{number_from, length_from}
 -- ---- an answer in one number
 pub packed_small : (a : Answer) → numbered a ≤ 13
 packed_small (Accepted n) = omega arith
-packed_small (Refused r) = (refusal_number r).1
+packed_small (Refused r) = (refusal_most r).1
 
--- that of a call, of whose outcome o the limits are known; p is what the code has
-module _ {lent : List ℕ} {o : Outcome} {n l : ℕ} {left work : List ℕ} (s : Short lent o) (h : AnsweredBy o n l left work) where
-  pub answered_short : l ≤ array_max
-  answered_short = omega (arith, h.length_is, s.array)
+-- that of any call whose number and length are small; p is what the code has
+module _ {o : Outcome} {n l : ℕ} {left work : List ℕ} (s : o.number ≤ 13) (f : o.length ≤ array_max) (h : AnsweredBy o n l left work) where
+  pub small_short : l ≤ array_max
+  small_short = omega (arith, h.length_is, f)
 
-  pub answered_one : {p : ℕ} → p ≡ n * 4294967296 + l → AnsweredBy o (number_from p) (length_from p) left work
-  answered_one {p} z =
-      let m = answered_short in
-      let a : number_from p ≡ n = omega (arith, h.number_is, s.number) in
-      let b : length_from p ≡ l = omega (arith, h.number_is, s.number) in
+  pub small_one : {p : ℕ} → p ≡ n * 4294967296 + l → AnsweredBy o (number_from p) (length_from p) left work
+  small_one {p} z =
+      let m = small_short in
+      let a : number_from p ≡ n = omega (arith, h.number_is, s) in
+      let b : length_from p ≡ l = omega (arith, h.number_is, s) in
       record {
         number_is = a ∙ h.number_is;
         length_is = b ∙ h.length_is;
@@ -39,11 +39,19 @@ module _ {lent : List ℕ} {o : Outcome} {n l : ℕ} {left work : List ℕ} (s :
         work_is = h.work_is;
       }
 
+-- that of a call, of whose outcome o the limits are known
+module _ {lent : List ℕ} {o : Outcome} {n l : ℕ} {left work : List ℕ} (s : Short lent o) (h : AnsweredBy o n l left work) where
+  pub answered_short : l ≤ array_max
+  answered_short = small_short (omega (arith, s.number)) s.array h
+
+  pub answered_one : {p : ℕ} → p ≡ n * 4294967296 + l → AnsweredBy o (number_from p) (length_from p) left work
+  answered_one z = small_one (omega (arith, s.number)) s.array h z
+
 -- ---- a check's answer
 pub check_small : (c : Check) (r s : Refusal) → checked_as c r s ≤ 13
 check_small check.Accepted r s = omega arith
-check_small check.Overlong r s = (refusal_number r).1
-check_small check.Malformed r s = (refusal_number s).1
+check_small check.Overlong r s = (refusal_most r).1
+check_small check.Malformed r s = (refusal_most s).1
 
 -- a check c of x, whose number the code has as n
 module _ {A : Type 0} (x : Tested A) (r s : Refusal) {c : Check} {n : ℕ} (z : c ≡ check_of x) (y : n ≡ checked_as c r s) where

@@ -11,7 +11,7 @@ use Rattle.spec_run.specs.declared.answer.Refusal.{Refusal}
 use Rattle.spec_run.specs.Refusal.{number_of}
 use Rattle.spec_run.specs.Answer.{numbered, lengthened, Answered}
 use Rattle.spec_run.specs.Run.{Call, call, plain_run}
-use Rattle.spec_run.proofs.RunLaws.{refusal_number, run_short}
+use Rattle.spec_run.proofs.RunLaws.{refusal_most, run_short}
 use Rattle.spec_run.specs.Program.{hex, refused_text, shown, answered, program, program_max}
 use Rattle.tquery_cli.specs.Text.{Begins}
 use Rattle.tquery_cli.specs.Respond.{ShowReady, ShowsAnswer, RespondReady}
@@ -20,7 +20,7 @@ use Rattle.tquery_cli.specs.SplitLaws.{first, second, third}
 
 -- ---- the numbers of refusals
 pub refusal_small : (f : Refusal) {n : ℕ} → n ≡ number_of f → n < 100
-refusal_small f {n} e = omega (arith, (refusal_number f).1)
+refusal_small f {n} e = omega (arith, (refusal_most f).1)
 
 -- ---- an answer's text
 module _ {a : Answer} {result text : List ℕ} where
@@ -44,7 +44,7 @@ module _ {a : Answer} {result text : List ℕ} where
   show_refusal {f} {n} {r} e g b = record {
     shows = λ o hn hl hr.
         let z : o.number ≡ n = sym (sym (ap numbered e) ∙ hn) ∙ sym g in
-        rw (z, ne_eqb n 0 (λ q. omega (arith, q, g, (refusal_number f).0))) b;
+        rw (z, ne_eqb n 0 (λ q. omega (arith, q, g, (refusal_most f).0))) b;
   }
 
 -- ---- the areas, and the room for an answer: a result has no more bytes than the result area
