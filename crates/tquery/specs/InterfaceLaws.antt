@@ -9,18 +9,23 @@ use Rattle.format.specs.declared.check.Check.TheVariants as check
 use Rattle.spec_run.specs.declared.answer.Refusal.{Refusal}
 use Rattle.spec_run.specs.declared.answer.Answer.{Answer}
 use Rattle.spec_run.specs.declared.answer.Answer.TheVariants.{Accepted, Refused}
+use Rattle.spec_run.specs.Refusal.{number_of}
 use Rattle.spec_run.specs.Run.{Outcome, check_number}
-use Rattle.spec_run.proofs.RunLaws.{refusal_most, Short}
+use Rattle.spec_run.proofs.RunLaws.{refusal_number, refusal_most, Short}
 use Rattle.spec_run.specs.Answer.{numbered}
 use Rattle.spec_run.specs.AnswerLaws.{AnsweredBy}
 use Rattle.checks.specs.Check.{checked_as}
 use Rattle.checks.specs.CheckLaws.{checked_number}
 use Rattle.tquery.specs.Interface.{number_from, length_from}
 
--- ---- an answer in one number
-pub packed_small : (a : Answer) → numbered a ≤ 13
-packed_small (Accepted n) = omega arith
-packed_small (Refused r) = (refusal_most r).1
+-- ---- an answer in one number: but for 13 of a message it is at most 12
+pub packed_small : (a : Answer) → (numbered a ≡ 13 → ⊥) → numbered a ≤ 12
+packed_small (Accepted n) o = omega arith
+packed_small (Refused r) o = (refusal_number r o).1
+
+pub packed_most : (a : Answer) → numbered a ≤ 13
+packed_most (Accepted n) = omega arith
+packed_most (Refused r) = (refusal_most r).1
 
 -- that of any call whose number and length are small; p is what the code has
 module _ {o : Outcome} {n l : ℕ} {left work : List ℕ} (s : o.number ≤ 13) (f : o.length ≤ array_max) (h : AnsweredBy o n l left work) where
@@ -48,15 +53,15 @@ module _ {lent : List ℕ} {o : Outcome} {n l : ℕ} {left work : List ℕ} (s :
   answered_one z = small_one (omega (arith, s.number)) s.array h z
 
 -- ---- a check's answer
-pub check_small : (c : Check) (r s : Refusal) → checked_as c r s ≤ 13
-check_small check.Accepted r s = omega arith
-check_small check.Overlong r s = (refusal_most r).1
-check_small check.Malformed r s = (refusal_most s).1
+pub check_small : (c : Check) (r s : Refusal) → (number_of r ≡ 13 → ⊥) → (number_of s ≡ 13 → ⊥) → checked_as c r s ≤ 12
+check_small check.Accepted r s o p = omega arith
+check_small check.Overlong r s o p = (refusal_number r o).1
+check_small check.Malformed r s o p = (refusal_number s p).1
 
 -- a check c of x, whose number the code has as n
 module _ {A : Type 0} (x : Tested A) (r s : Refusal) {c : Check} {n : ℕ} (z : c ≡ check_of x) (y : n ≡ checked_as c r s) where
-  pub check_most : n ≤ 13
-  check_most = omega (arith, y, check_small c r s)
+  pub check_most : (number_of r ≡ 13 → ⊥) → (number_of s ≡ 13 → ⊥) → n ≤ 12
+  check_most o p = omega (arith, y, check_small c r s o p)
 
   pub check_is : n * 4294967296 ≡ check_number x r s * 4294967296
   check_is = ap (λ k. k * 4294967296) (y ∙ ap (λ k. checked_as k r s) z ∙ checked_number x r s)

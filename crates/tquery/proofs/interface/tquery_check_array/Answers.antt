@@ -11,7 +11,7 @@ overflow_mul-result c =
     omega (
       arith,
       check_most (read_array c.args.bytes.now) InputLong InputMalformed c.check_array-c.ensures
-          c.check_number.ensures,
+          c.check_number.ensures (λ z. omega arith) (λ z. omega arith),
     )
 
 pub returns : goal.returns

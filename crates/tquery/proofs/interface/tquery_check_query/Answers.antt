@@ -11,7 +11,7 @@ overflow_mul-result c =
     omega (
       arith,
       check_most (read_query c.args.bytes.now) QueryLong QueryMalformed c.check_query-c.ensures
-          c.check_number.ensures,
+          c.check_number.ensures (λ z. omega arith) (λ z. omega arith),
     )
 
 pub returns : goal.returns
