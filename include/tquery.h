@@ -173,10 +173,11 @@
  *
  * What a machine must have
  * ------------------------
- * Processor. The library is code for x86-64, called by the System V
- * convention. It uses the registers of SSE2, and the 128 bytes below the stack
- * pointer that the convention grants: an interrupt on the same stack must pass
- * over them.
+ * Processor. The library is code for x86-64-v2, called by the System V
+ * convention: x86-64 with SSE3, SSSE3, SSE4.1, SSE4.2, POPCNT and CMPXCHG16B.
+ * It does not test what it runs on. It uses the registers of SSE, and the 128
+ * bytes below the stack pointer that the convention grants: an interrupt on the
+ * same stack must pass over them.
  *
  * memset. It is the one symbol that the library leaves to the machine's C
  * runtime. tquery_run, tquery_regroup and tquery_tracer clear the areas that
