@@ -33,7 +33,7 @@ use Rattle.spec_run.specs.declared.answer.Refusal.{Refusal}
 use Rattle.spec_run.specs.declared.answer.Refusal.TheVariants.{WorkShort, QueryLong, QueryMalformed, InputLong, InputMalformed, GroupLong}
 use Rattle.spec_run.specs.Run.{call, Verdict, gives, refused, reading, asking, refusal_at, final, outcome_of, plain_run}
 use Rattle.spec_run.specs.Regroup.{RegroupCall, regroup_verdict_of, regroup_verdict, plain_regroup}
-use Rattle.spec_run.proofs.RunLaws.{reads_verdict, reading_out, cond_out, final_out, accepts_gives, outcome_same, NotThirteen, refused_other, reading_other, cond_other, final_other, Short, outcome_short, bytes_short}
+use Rattle.spec_run.proofs.RunLaws.{reads_verdict, reading_out, cond_out, final_out, accepts_gives, outcome_same, reading_holds, asking_holds, cond_holds, NotThirteen, refused_other, final_other, Short, outcome_short, bytes_short}
 
 -- ---- the tests passed: the query is one group alone, s is its regrouping, and the arrays hold these trees
 pub record RegroupReads (c : RegroupCall) (ss : List Stage) (s : Stage) (ts us : List Tree) : Type 0 where
@@ -96,19 +96,14 @@ pub regroup_is : (c : RegroupCall) (ss : List Stage) (s : Stage) (ts us fs : Lis
 unfolding plain_regroup
 regroup_is c ss s ts us fs g = ap (outcome_of c.result c.work) (gives_regroup c ss s ts us fs g)
 
-asking_other : {A : Type 0} (x : Option A) (r : Refusal) (f : A → Verdict) → NotThirteen (refused r) → ((a : A) → NotThirteen (f a)) → NotThirteen (asking x r f)
-unfolding asking
-asking_other none r f n k = n
-asking_other (some a) r f n k = k a
-
 regroup_other : (c : RegroupCall) → NotThirteen (regroup_verdict c)
 unfolding regroup_verdict regroup_verdict_of
 regroup_other c =
-    cond_other (leb work_min (length c.work)) _ WorkShort
-    (reading_other (read_query c.query) QueryLong QueryMalformed _ (refused_other QueryLong (λ z. omega arith)) (refused_other QueryMalformed (λ z. omega arith)) λ ss.
-    asking_other (regrouping ss) QueryMalformed _ (refused_other QueryMalformed (λ z. omega arith)) λ s.
-    reading_other (read_array c.first) InputLong InputMalformed _ (refused_other InputLong (λ z. omega arith)) (refused_other InputMalformed (λ z. omega arith)) λ ts.
-    reading_other (read_array c.second) InputLong InputMalformed _ (refused_other InputLong (λ z. omega arith)) (refused_other InputMalformed (λ z. omega arith)) λ us.
+    cond_holds NotThirteen (leb work_min (length c.work)) _ WorkShort
+    (reading_holds NotThirteen (read_query c.query) QueryLong QueryMalformed _ (refused_other QueryLong (λ z. omega arith)) (refused_other QueryMalformed (λ z. omega arith)) λ ss e.
+    asking_holds NotThirteen (regrouping ss) QueryMalformed _ (refused_other QueryMalformed (λ z. omega arith)) λ s k.
+    reading_holds NotThirteen (read_array c.first) InputLong InputMalformed _ (refused_other InputLong (λ z. omega arith)) (refused_other InputMalformed (λ z. omega arith)) λ ts a.
+    reading_holds NotThirteen (read_array c.second) InputLong InputMalformed _ (refused_other InputLong (λ z. omega arith)) (refused_other InputMalformed (λ z. omega arith)) λ us b.
     final_other (length c.result) [] (stages [] (s ∷ []) (going (ts ++ us))))
     (refused_other WorkShort (λ z. omega arith))
 

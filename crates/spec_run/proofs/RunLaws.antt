@@ -11,6 +11,7 @@ use Rattle.spec_trees.specs.Bytes.{array_bytes}
 use Rattle.spec_trees.specs.Readers.{Tested, accepted, overlong, malformed}
 use Rattle.spec_trees.specs.Decode.{read_array}
 use Rattle.spec_trees.specs.Within.{AllBytes, Within}
+use Rattle.std.proofs.Math.Option.{Option, none, some}
 use Rattle.spec_trees.specs.OptionLaws.{leb_yes, leb_no, T_and}
 use Rattle.spec_trees.proofs.ArrayLaws.{array_only, read_array_lem}
 use Rattle.spec_queries.specs.Query.{Stage}
@@ -23,7 +24,7 @@ use Rattle.spec_stages.proofs.KeepLaws.{stages_allowed}
 use Rattle.spec_run.specs.declared.answer.Refusal.{Refusal}
 use Rattle.spec_run.specs.declared.answer.Refusal.TheVariants.{WorkShort, PositionsShort, MessageMalformed, QueryLong, QueryMalformed, InputLong, InputMalformed, JoinedLong, JoinedMalformed, TotalLarge, TreeLarge, GroupLong, ResultLong}
 use Rattle.spec_run.specs.Refusal.{number_of, keeps_result, keeps_work}
-use Rattle.spec_run.specs.Run.{Call, call, Outcome, Verdict, gives, refused, reading, refusal_at, final, verdict_of, verdict, zeros, work_after, number_in, length_in, result_after, positions_after, outcome_of, plain_run, plain_positions, result_bytes}
+use Rattle.spec_run.specs.Run.{Call, call, Outcome, Verdict, gives, refused, reading, asking, refusal_at, final, verdict_of, verdict, zeros, work_after, number_in, length_in, result_after, positions_after, outcome_of, plain_run, plain_positions, result_bytes}
 
 -- ---- the tests passed: what the lent pieces hold
 pub record Reads (c : Call) (ss : List Stage) (ts us : List Tree) : Type 0 where
@@ -173,6 +174,23 @@ accepted_within c ss ts us fs bq bi bj g =
     let k = (array_only c.joined us bj ((read_array_lem c.joined us).0 g.reads.joined)).1 in
     record { allowed = stages_allowed us ss ts fs k.allowed o.stages w.allowed g.ran; small = g.small }
 
+-- ---- a property of whatever a row of tests comes to
+pub reading_holds : {A : Type 0} (P : Verdict → Type 0) (x : Tested A) (r s : Refusal) (f : A → Verdict) → P (refused r) → P (refused s) → ((a : A) → x ≡ accepted a → P (f a))
+    → P (reading x r s f)
+unfolding reading
+reading_holds P (accepted a) r s f n m k = k a refl
+reading_holds P overlong r s f n m k = n
+reading_holds P malformed r s f n m k = m
+
+pub asking_holds : {A : Type 0} (P : Verdict → Type 0) (x : Option A) (r : Refusal) (f : A → Verdict) → P (refused r) → ((a : A) → x ≡ some a → P (f a)) → P (asking x r f)
+unfolding asking
+asking_holds P none r f n k = n
+asking_holds P (some a) r f n k = k a refl
+
+pub cond_holds : (P : Verdict → Type 0) (c : Bool) (x : Verdict) (r : Refusal) → P x → P (refused r) → P (cond c x (refused r))
+cond_holds P true x r n m = n
+cond_holds P false x r n m = m
+
 -- ---- the numbers and lengths of outcomes
 -- 13 is the number of a message alone: no run and no regrouping comes to it
 abbrev pub NotThirteen : Verdict → Type 0
@@ -186,34 +204,23 @@ gives_other : (b ps : List ℕ) → NotThirteen (gives b ps)
 unfolding number_in
 gives_other b ps e = omega arith
 
-pub reading_other : {A : Type 0} (x : Tested A) (r s : Refusal) (f : A → Verdict) → NotThirteen (refused r) → NotThirteen (refused s) → ((a : A) → NotThirteen (f a))
-    → NotThirteen (reading x r s f)
-unfolding reading
-reading_other (accepted a) r s f n m k = k a
-reading_other overlong r s f n m k = n
-reading_other malformed r s f n m k = m
-
-pub cond_other : (c : Bool) (x : Verdict) (r : Refusal) → NotThirteen x → NotThirteen (refused r) → NotThirteen (cond c x (refused r))
-cond_other true x r n m = n
-cond_other false x r n m = m
-
 pub final_other : (room : ℕ) (rs : List ℕ) (x : State) → NotThirteen (final room rs x)
 unfolding final refusal_at
 final_other room rs large = refused_other TreeLarge (λ z. omega arith)
 final_other room rs (halted too_long) = refused_other GroupLong (λ z. omega arith)
 final_other room rs (halted overflow) = refused_other TotalLarge (λ z. omega arith)
 final_other room rs (going ts) =
-    cond_other (leb (array_size ts) array_max && leb (array_size ts) room) (gives (array_bytes ts) rs) ResultLong (gives_other (array_bytes ts) rs)
+    cond_holds NotThirteen (leb (array_size ts) array_max && leb (array_size ts) room) (gives (array_bytes ts) rs) ResultLong (gives_other (array_bytes ts) rs)
     (refused_other ResultLong (λ z. omega arith))
 
 verdict_other : (c : Call) → NotThirteen (verdict c)
 unfolding verdict verdict_of
 verdict_other c =
-    cond_other (leb work_min (length c.work)) _ WorkShort
-    (cond_other (leb positions_min (length c.positions)) _ PositionsShort
-    (reading_other (read_query c.query) QueryLong QueryMalformed _ (refused_other QueryLong (λ z. omega arith)) (refused_other QueryMalformed (λ z. omega arith)) λ ss.
-    reading_other (read_array c.input) InputLong InputMalformed _ (refused_other InputLong (λ z. omega arith)) (refused_other InputMalformed (λ z. omega arith)) λ ts.
-    reading_other (read_array c.joined) JoinedLong JoinedMalformed _ (refused_other JoinedLong (λ z. omega arith)) (refused_other JoinedMalformed (λ z. omega arith)) λ us.
+    cond_holds NotThirteen (leb work_min (length c.work)) _ WorkShort
+    (cond_holds NotThirteen (leb positions_min (length c.positions)) _ PositionsShort
+    (reading_holds NotThirteen (read_query c.query) QueryLong QueryMalformed _ (refused_other QueryLong (λ z. omega arith)) (refused_other QueryMalformed (λ z. omega arith)) λ ss e.
+    reading_holds NotThirteen (read_array c.input) InputLong InputMalformed _ (refused_other InputLong (λ z. omega arith)) (refused_other InputMalformed (λ z. omega arith)) λ ts a.
+    reading_holds NotThirteen (read_array c.joined) JoinedLong JoinedMalformed _ (refused_other JoinedLong (λ z. omega arith)) (refused_other JoinedMalformed (λ z. omega arith)) λ us b.
     final_other (length c.result) (result_positions us ss ts) (stages us ss (going ts)))
     (refused_other PositionsShort (λ z. omega arith)))
     (refused_other WorkShort (λ z. omega arith))

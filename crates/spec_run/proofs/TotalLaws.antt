@@ -1,6 +1,6 @@
 -- Totals, of the answers of calls: what stands in the result area of an accepted run that ends in a group has, under the
 -- destination of each total, the total of the array that entered the group. And no regrouping is refused by 12.
-use Rattle.std.specs.Prelude.{◌≡◌, refl, List, [], ◌∷◌, ◌++◌, map, Bool, true, false, cond, ◌&&◌, ℕ, length, leb}
+use Rattle.std.specs.Prelude.{◌≡◌, List, [], ◌∷◌, ◌++◌, map, Bool, true, false, cond, ◌&&◌, ℕ, length, leb}
 use Rattle.std.proofs.Common.{sym, ap, subst, ◌∙◌, arith}
 use Rattle.std.proofs.Math.Option.{Option, none, some}
 use Rattle.spec_trees.specs.Limits.{array_max, work_min}
@@ -9,7 +9,7 @@ use Rattle.spec_trees.specs.Options.{maybe}
 use Rattle.spec_trees.specs.Tree.{Tree}
 use Rattle.spec_trees.specs.Size.{array_size}
 use Rattle.spec_trees.specs.Bytes.{array_bytes}
-use Rattle.spec_trees.specs.Readers.{Tested, accepted, overlong, malformed}
+use Rattle.spec_trees.specs.Readers.{Tested, accepted}
 use Rattle.spec_trees.specs.Decode.{read_array}
 use Rattle.spec_queries.specs.Query.{Pair, Stage, group}
 use Rattle.spec_queries.specs.Decode.{read_query}
@@ -29,6 +29,7 @@ use Rattle.spec_run.specs.Refusal.{number_of}
 use Rattle.spec_run.specs.Run.{Verdict, gives, refused, reading, asking, refusal_at, final, number_in}
 use Rattle.spec_run.specs.Regroup.{RegroupCall, regroup_verdict_of, regroup_verdict}
 use Rattle.spec_run.specs.Day.{IsQuery, IsArray, RanTray}
+use Rattle.spec_run.proofs.RunLaws.{reading_holds, asking_holds, cond_holds}
 use Rattle.spec_run.proofs.DayLaws.{ran_tray}
 
 -- ---- the query ends in a group whose destinations are single labels, no two equal
@@ -47,15 +48,10 @@ NotTotal x = x ≡ refused TotalLarge → ⊥
 
 reading_not : {A : Type 0} (x : Tested A) (r s : Refusal) (f : A → Verdict) → NotTotal (refused r) → NotTotal (refused s) → ((a : A) → x ≡ accepted a → NotTotal (f a))
     → NotTotal (reading x r s f)
-unfolding reading
-reading_not (accepted a) r s f n m k = k a refl
-reading_not overlong r s f n m k = n
-reading_not malformed r s f n m k = m
+reading_not = reading_holds NotTotal
 
 asking_not : {A : Type 0} (x : Option A) (r : Refusal) (f : A → Verdict) → NotTotal (refused r) → ((a : A) → x ≡ some a → NotTotal (f a)) → NotTotal (asking x r f)
-unfolding asking
-asking_not none r f n k = n
-asking_not (some a) r f n k = k a refl
+asking_not = asking_holds NotTotal
 
 after_not : (room : ℕ) (x : Option (List Tree)) → NotTotal (final room [] (after x))
 unfolding final after
@@ -87,8 +83,7 @@ unfolding number_in
 other_not r n e = n (ap number_in e)
 
 cond_not : (b : Bool) (x : Verdict) (r : Refusal) → NotTotal x → NotTotal (refused r) → NotTotal (cond b x (refused r))
-cond_not true x r n m = n
-cond_not false x r n m = m
+cond_not = cond_holds NotTotal
 
 pub regroup_not_total : (c : RegroupCall) → regroup_verdict c ≡ refused TotalLarge → ⊥
 unfolding regroup_verdict regroup_verdict_of
