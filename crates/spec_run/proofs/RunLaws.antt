@@ -103,22 +103,7 @@ verdict_out c b ps e =
     )
 
 -- ---- outcomes
--- a refusal's number is 1 to 12, but for 13 of a message
-pub refusal_number : (r : Refusal) → (number_of r ≡ 13 → ⊥) → (0 < number_of r) × (number_of r ≤ 12)
-refusal_number WorkShort o = (omega arith, omega arith)
-refusal_number PositionsShort o = (omega arith, omega arith)
-refusal_number MessageMalformed o = absurd (o refl)
-refusal_number QueryLong o = (omega arith, omega arith)
-refusal_number QueryMalformed o = (omega arith, omega arith)
-refusal_number InputLong o = (omega arith, omega arith)
-refusal_number InputMalformed o = (omega arith, omega arith)
-refusal_number JoinedLong o = (omega arith, omega arith)
-refusal_number JoinedMalformed o = (omega arith, omega arith)
-refusal_number TotalLarge o = (omega arith, omega arith)
-refusal_number TreeLarge o = (omega arith, omega arith)
-refusal_number GroupLong o = (omega arith, omega arith)
-refusal_number ResultLong o = (omega arith, omega arith)
-
+-- a refusal's number is 1 to 13, and 13 that of a message alone
 pub refusal_most : (r : Refusal) → (0 < number_of r) × (number_of r ≤ 13)
 refusal_most WorkShort = (omega arith, omega arith)
 refusal_most PositionsShort = (omega arith, omega arith)
@@ -133,6 +118,9 @@ refusal_most TotalLarge = (omega arith, omega arith)
 refusal_most TreeLarge = (omega arith, omega arith)
 refusal_most GroupLong = (omega arith, omega arith)
 refusal_most ResultLong = (omega arith, omega arith)
+
+pub refusal_number : (r : Refusal) → (number_of r ≡ 13 → ⊥) → (0 < number_of r) × (number_of r ≤ 12)
+refusal_number r o = let m = refusal_most r in (m.0, omega (arith, m.1, o))
 
 -- number 0 is acceptance
 pub accepts_gives : (x : Verdict) → number_in x ≡ 0 → (b : List ℕ) × (ps : List ℕ) × (x ≡ gives b ps)
@@ -225,15 +213,13 @@ verdict_other c =
     (refused_other PositionsShort (λ z. omega arith)))
     (refused_other WorkShort (λ z. omega arith))
 
-verdict_number : (x : Verdict) → NotThirteen x → number_in x ≤ 12
-unfolding number_in
-verdict_number (gives b ps) n = omega arith
-verdict_number (refused r) n = (refusal_number r n).1
-
 pub verdict_most : (x : Verdict) → number_in x ≤ 13
 unfolding number_in
 verdict_most (gives b ps) = omega arith
 verdict_most (refused r) = (refusal_most r).1
+
+verdict_number : (x : Verdict) → NotThirteen x → number_in x ≤ 12
+verdict_number x n = omega (arith, verdict_most x, n)
 
 -- a number is at most 12; a result's length is that of an array within the limits, and no more than the result area's,
 -- before the call and after it

@@ -18,14 +18,13 @@ use Rattle.checks.specs.Check.{checked_as}
 use Rattle.checks.specs.CheckLaws.{checked_number}
 use Rattle.tquery.specs.Interface.{number_from, length_from}
 
--- ---- an answer in one number: but for 13 of a message it is at most 12
-pub packed_small : (a : Answer) → (numbered a ≡ 13 → ⊥) → numbered a ≤ 12
-packed_small (Accepted n) o = omega arith
-packed_small (Refused r) o = (refusal_number r o).1
-
+-- ---- an answer in one number: at most 13, which is a message's alone
 pub packed_most : (a : Answer) → numbered a ≤ 13
 packed_most (Accepted n) = omega arith
 packed_most (Refused r) = (refusal_most r).1
+
+pub packed_small : (a : Answer) → (numbered a ≡ 13 → ⊥) → numbered a ≤ 12
+packed_small a o = omega (arith, packed_most a, o)
 
 -- that of any call whose number and length are small; p is what the code has
 module _ {o : Outcome} {n l : ℕ} {left work : List ℕ} (s : o.number ≤ 13) (f : o.length ≤ array_max) (h : AnsweredBy o n l left work) where
