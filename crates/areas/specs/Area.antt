@@ -1,11 +1,17 @@
 -- One lent area as a list of bytes: what stands in it, and what a writer did to it. A writer appends at d and has an
 -- absolute end, `stop`; what it reads stands below d.
-use Rattle.std.specs.Prelude.{◌≡◌, List, [], ◌∷◌, ◌++◌, ℕ, ◌+◌, ◌*◌, ◌/◌, ◌%◌, ◌≤◌, ◌<◌, length, take, drop, get_or}
+use Rattle.std.specs.Prelude.{◌≡◌, List, [], ◌∷◌, ◌++◌, ℕ, ◌+◌, ◌*◌, ◌/◌, ◌%◌, ◌≤◌, ◌<◌, length, take, drop, get_or, Result, Ok, Err}
 use Rattle.std.proofs.Math.Seq.{slice}
-use Rattle.areas.specs.declared.area.Out.{Out}
-use Rattle.areas.specs.declared.area.Out.TheVariants.{At, TooLarge}
+use Rattle.areas.specs.declared.area.TooLarge.{TooLarge}
 use Rattle.areas.specs.declared.span.Span.{Span}
 use Rattle.spec_trees.specs.Bytes.{field_bytes}
+
+-- a writer's answer: where the next byte goes, or that the bytes did not fit
+abbrev pub Out : Type 0
+Out = Result ℕ TooLarge
+
+abbrev pub too_large : TooLarge
+too_large = record {}
 
 -- xs stands in w from p to e
 pub record Is (w : List ℕ) (p e : ℕ) (xs : List ℕ) : Type 0 where
@@ -37,13 +43,13 @@ pub record Failed (w v : List ℕ) (d stop top : ℕ) (xs : List ℕ) : Type 0 w
 -- What a writer of xs at d with the end `stop` did: xs stands at d, and all else is as it was; or it is too large,
 -- just if xs passes stop, and all outside d to stop is as it was.
 pub record Wrote (w v : List ℕ) (d stop : ℕ) (xs : List ℕ) (r : Out) : Type 0 where
-  pub fits : (e : ℕ) → r ≡ At e → Fitted w v d stop e xs e
-  pub large : r ≡ TooLarge → Failed w v d stop stop xs
+  pub fits : (e : ℕ) → r ≡ Ok e → Fitted w v d stop e xs e
+  pub large : r ≡ Err too_large → Failed w v d stop stop xs
 
 -- where a writer in a lent tail ended, said of the whole
 abbrev pub shift : ℕ → Out → Out
-shift at (At e) = At (at + e)
-shift at TooLarge = TooLarge
+shift at (Ok e) = Ok (at + e)
+shift at (Err _) = Err too_large
 
 -- the three bytes before a content of n bytes
 abbrev pub head_bytes : ℕ → ℕ → List ℕ
@@ -55,7 +61,7 @@ field_end w p = p + 3 + (get_or w (p + 1) 0 * 256 + get_or w (p + 2) 0)
 
 -- a content that ends where r says can get a head at d
 abbrev pub Finishable : List ℕ → ℕ → Out → Type 0
-Finishable w d r = (e : ℕ) → r ≡ At e → (d + 3 ≤ e) × (e ≤ length w)
+Finishable w d r = (e : ℕ) → r ≡ Ok e → (d + 3 ≤ e) × (e ≤ length w)
 
 -- whatever content was written behind the head, the field is written
 abbrev pub Finished : (w v : List ℕ) (d tag : ℕ) → Out → Out → Type 0

@@ -1,15 +1,15 @@
 -- Laws of what stands in an area, of writers one behind another, of heads, copies, lent parts and scratch.
-use Rattle.std.specs.Prelude.{◌≡◌, List, [], ◌∷◌, ◌++◌, ◌⊎◌, ℕ, suc, ◌+◌, ◌-◌, ◌≤◌, ◌<◌, take, drop, get_or, set, replicate}
+use Rattle.std.specs.Prelude.{◌≡◌, List, [], ◌∷◌, ◌++◌, ◌⊎◌, ℕ, suc, ◌+◌, ◌-◌, ◌≤◌, ◌<◌, take, drop, get_or, set, replicate, Ok, Err, IsErrAnd}
+use Rattle.std.proofs.lemmas.Result.{err_from_is_err_and}
+use Rattle.areas.specs.declared.area.TooLarge.{TooLarge}
+use Rattle.areas.specs.Area.{Is, Fitted, Failed, Wrote, shift, head_bytes, field_end, Finishable, Finished, Out, too_large}
 use Rattle.std.proofs.Math.Path.{refl, subst}
 use Rattle.std.proofs.Common.{sym, ap, ap₂, ◌∙◌, append_assoc, append-nil, inl, inr, add-zero, add-one, length-append, length-take, length-drop, drop_of_length-le, length-take-le, take_all, take-take, take-add, take_at, take-suc-set, drop_at, drop-drop, drop-set-lt, get_or-take, get_or-drop}
 use native.Mathlib.Omega.{arith}
 use Rattle.std.proofs.Math.ListN.{length, get_or-append}
 use Rattle.std.proofs.Math.Seq.{slice, slice-cons, slice_empty, length-slice, take-append-add, drop-append-add, drop-append_seam, paste, paste-suc}
 use Rattle.std.proofs.lemmas.List.Edits.{take-paste, drop-paste}
-use Rattle.areas.specs.declared.area.Out.{Out}
-use Rattle.areas.specs.declared.area.Out.TheVariants.{At, TooLarge}
 use Rattle.spec_trees.specs.Bytes.{Field, field_bytes}
-use Rattle.areas.specs.Area.{Is, Fitted, Failed, Wrote, shift, head_bytes, field_end, Finishable, Finished}
 
 -- ---- the beginning and the end of two lists that agree
 
@@ -126,34 +126,38 @@ module _ {w : List ℕ} {p e : ℕ} (f : Field) where
 
 -- ---- what a writer did
 
-pub fitted : {w v : List ℕ} {d stop : ℕ} {xs : List ℕ} {e : ℕ} → Fitted w v d stop e xs e → Wrote w v d stop xs (At e)
+pub fitted : {w v : List ℕ} {d stop : ℕ} {xs : List ℕ} {e : ℕ} → Fitted w v d stop e xs e → Wrote w v d stop xs (Ok e)
 fitted {w} {v} {d} {stop} {xs} {e} h = record {
   fits = λ f q. let z : e ≡ f = cc in subst (λ n. Fitted w v d stop n xs n) z h;
   large = λ q. let z : ◌≡◌ {A = ℕ} 0 1 = cc in absurd (omega arith);
 }
 
-pub failed : {w v : List ℕ} {d stop : ℕ} {xs : List ℕ} → Failed w v d stop stop xs → Wrote w v d stop xs TooLarge
+pub failed : {w v : List ℕ} {d stop : ℕ} {xs : List ℕ} → Failed w v d stop stop xs → Wrote w v d stop xs (Err too_large)
 failed h = record {
   fits = λ f q. let z : ◌≡◌ {A = ℕ} 0 1 = cc in absurd (omega arith);
   large = λ q. h;
 }
 
-pub no_room : (w : List ℕ) (d stop : ℕ) (xs : List ℕ) → stop < d + length xs → Wrote w w d stop xs TooLarge
+pub no_room : (w : List ℕ) (d stop : ℕ) (xs : List ℕ) → stop < d + length xs → Wrote w w d stop xs (Err too_large)
 no_room w d stop xs h = failed record { over = h; below = refl; beyond = refl }
 
-pub wrote_none : (w : List ℕ) (d stop : ℕ) → d ≤ stop → Wrote w w d stop [] (At d)
+pub wrote_none : (w : List ℕ) (d stop : ℕ) → d ≤ stop → Wrote w w d stop [] (Ok d)
 wrote_none w d stop b = fitted record { ends = sym (add-zero d); room = b; below = sym (append-nil (take d w)); beyond = refl }
 
 -- with more room behind it
-pub wrote_wider : {w v : List ℕ} {d stop : ℕ} {xs : List ℕ} {e : ℕ} (s : ℕ) → stop ≤ s → Wrote w v d stop xs (At e) → Wrote w v d s xs (At e)
+pub wrote_wider : {w v : List ℕ} {d stop : ℕ} {xs : List ℕ} {e : ℕ} (s : ℕ) → stop ≤ s → Wrote w v d stop xs (Ok e) → Wrote w v d s xs (Ok e)
 wrote_wider {e = e} s l h =
     let f = h.fits e refl in
     fitted record { ends = f.ends; room = omega (arith, f.room); below = f.below; beyond = f.beyond }
 
+-- what a `?` hands on: the bytes did not fit
+pub handed_on : (Q : TooLarge → Type 0) (r : Out) → IsErrAnd r Q → r ≡ Err too_large
+handed_on Q r h = (err_from_is_err_and {Q = Q} r h).1
+
 -- by what the writer answered
-pub told : {P : Type 0} (r : Out) → ((e : ℕ) → r ≡ At e → P) → (r ≡ TooLarge → P) → P
-told (At e) f g = f e refl
-told TooLarge f g = g refl
+pub told : {P : Type 0} (r : Out) → ((e : ℕ) → r ≡ Ok e → P) → (r ≡ Err too_large → P) → P
+told (Ok e) f g = f e refl
+told (Err _) f g = g refl
 
 module _ {w v : List ℕ} {d stop top : ℕ} {xs : List ℕ} {e : ℕ} (b : d ≤ length w) (h : Fitted w v d stop top xs e) where
   pub fitted_keep : take d v ≡ take d w
@@ -171,22 +175,22 @@ module _ {w v : List ℕ} {d stop : ℕ} {xs : List ℕ} {r : Out} (h : Wrote w 
   pub wrote_keep : d ≤ length w → take d v ≡ take d w
   wrote_keep b = told r (λ e q. fitted_keep b (h.fits e q)) (λ q. (h.large q).below)
 
-  pub written : {e : ℕ} → d ≤ length w → r ≡ At e → Is v d e xs
+  pub written : {e : ℕ} → d ≤ length w → r ≡ Ok e → Is v d e xs
   written {e} b q = fitted_is b (h.fits e q)
 
   -- what does not fit does not fit with more behind it, nor with more before it
-  pub wrote_fail : (ys : List ℕ) → r ≡ TooLarge → Wrote w v d stop (xs ++ ys) TooLarge
+  pub wrote_fail : (ys : List ℕ) → r ≡ Err too_large → Wrote w v d stop (xs ++ ys) (Err too_large)
   wrote_fail ys q =
       let f = h.large q in
       failed record { over = omega (arith, length-append xs ys); below = f.below; beyond = f.beyond }
 
-  pub fail_back : {a : ℕ} (hs : List ℕ) → d ≡ a + length hs → r ≡ TooLarge → Wrote w v a stop (hs ++ xs) TooLarge
+  pub fail_back : {a : ℕ} (hs : List ℕ) → d ≡ a + length hs → r ≡ Err too_large → Wrote w v a stop (hs ++ xs) (Err too_large)
   fail_back {a} hs z q =
       let f = h.large q in
       failed record { over = omega (arith, length-append hs xs); below = take_less w v a d (omega arith) f.below; beyond = f.beyond }
 
   -- one write behind another
-  pub wrote_seq : {u : List ℕ} {e : ℕ} {ys : List ℕ} {o : Out} → d ≤ length w → r ≡ At e → Wrote v u e stop ys o → Wrote w u d stop (xs ++ ys) o
+  pub wrote_seq : {u : List ℕ} {e : ℕ} {ys : List ℕ} {o : Out} → d ≤ length w → r ≡ Ok e → Wrote v u e stop ys o → Wrote w u d stop (xs ++ ys) o
   wrote_seq {u} {e} {ys} {o} b z k =
       let a = h.fits e z in
       record {
@@ -254,16 +258,16 @@ byte_before {w} {v} {d} {stop} x b s h =
 
 -- a head stored before a content, unless the content did not fit
 module _ (w : List ℕ) (d tag : ℕ) {r : Out} where
-  pub finish_at : {v : List ℕ} {e : ℕ} → d + 3 ≤ e → e ≤ length w → r ≡ At e
-      → Wrote w v d (d + 3) (head_bytes tag (e - (d + 3))) (At (d + 3)) → Finished w v d tag r (At e)
+  pub finish_at : {v : List ℕ} {e : ℕ} → d + 3 ≤ e → e ≤ length w → r ≡ Ok e
+      → Wrote w v d (d + 3) (head_bytes tag (e - (d + 3))) (Ok (d + 3)) → Finished w v d tag r (Ok e)
   unfolding field_bytes
   finish_at {v} {e} a b q k u stop c m h =
       let f = h.fits e q in
       let n : e - (d + 3) ≡ length c = omega arith in
-      let k' = subst (λ n. Wrote w v d (d + 3) (head_bytes tag n) (At (d + 3))) n k in
+      let k' = subst (λ n. Wrote w v d (d + 3) (head_bytes tag n) (Ok (d + 3))) n k in
       subst (λ o. Wrote u v d stop (field_bytes (tag, c)) o) q (wrote_before h m (omega arith) (k'.fits (d + 3) refl))
 
-  pub finish_fail : r ≡ TooLarge → Finished w w d tag r TooLarge
+  pub finish_fail : r ≡ Err too_large → Finished w w d tag r (Err too_large)
   unfolding field_bytes
   finish_fail q u stop c m h = fail_back h (head_bytes tag (length c)) refl q
 
@@ -278,7 +282,7 @@ module _ (w s : List ℕ) (d : ℕ) where
   paste_more k a b = paste-suc w d s k 0 a b ∙ ap (λ n. paste w d s n) (sym (add-one k))
 
   -- all of them are
-  pub pasted : {v : List ℕ} {n : ℕ} (stop : ℕ) → d ≤ length w → d + n ≤ stop → length s ≡ n → v ≡ paste w d s n → Wrote w v d stop s (At (d + n))
+  pub pasted : {v : List ℕ} {n : ℕ} (stop : ℕ) → d ≤ length w → d + n ≤ stop → length s ≡ n → v ≡ paste w d s n → Wrote w v d stop s (Ok (d + n))
   pasted {v} {n} stop a b l f = fitted record {
     ends = omega arith;
     room = b;
@@ -323,7 +327,7 @@ module _ (w : List ℕ) (i n : ℕ) (a : i + n ≤ length w) where
 -- n bytes, from the last to the first, to a place so far below that none is stored over before it is read: the bytes
 -- from the i-th on are copied
 abbrev pub Backwards : (w : List ℕ) (from n to : ℕ) (v : List ℕ) (i : ℕ) → Type 0
-Backwards w from n to v i = Wrote w v (to + i) (length w) (slice (from + i) (from + n) w) (At (to + n))
+Backwards w from n to v i = Wrote w v (to + i) (length w) (slice (from + i) (from + n) w) (Ok (to + n))
 
 module _ (w : List ℕ) (from n to : ℕ) (b : from + n ≤ length w) (c : to + n ≤ from) where
   pub back_begin : Backwards w from n to w n
@@ -343,18 +347,18 @@ module _ (w : List ℕ) (from n to : ℕ) (b : from + n ≤ length w) (c : to + 
       let p : to + i ≡ to + (i - 1) + 1 = omega arith in
       let q : from + i ≡ suc (from + (i - 1)) = omega arith in
       let byte = unwritten i (from + (i - 1)) h (omega arith) in
-      let rest = subst (λ k. Wrote w v k (length w) (slice (suc (from + (i - 1))) (from + n) w) (At (to + n))) p
-      (subst (λ k. Wrote w v (to + i) (length w) (slice k (from + n) w) (At (to + n))) q h) in
+      let rest = subst (λ k. Wrote w v k (length w) (slice (suc (from + (i - 1))) (from + n) w) (Ok (to + n))) p
+      (subst (λ k. Wrote w v (to + i) (length w) (slice k (from + n) w) (Ok (to + n))) q h) in
       rw (slice-cons (from + (i - 1)) (from + n) w 0 (omega arith) b, byte) (byte_before (get_or w (from + (i - 1)) 0) (omega arith) (omega arith) rest)
 
-  pub back_end : {v : List ℕ} (i : ℕ) → i ≡ 0 → Backwards w from n to v i → Wrote w v to (length w) (take n (drop from w)) (At (to + n))
+  pub back_end : {v : List ℕ} (i : ℕ) → i ≡ 0 → Backwards w from n to v i → Wrote w v to (length w) (take n (drop from w)) (Ok (to + n))
   back_end {v} i z h =
       let x : Is w from (from + n) (slice from (from + n) w) = record { lies = refl; ends = omega (arith, length-slice from (from + n) w b); inside = b } in
       let m : from + n - from ≡ n = omega arith in
       let y : take n (drop from w) ≡ slice from (from + n) w = ap (λ k. take k (drop from w)) (sym m) ∙ is_part_lem x in
       let p : to + i ≡ to = omega arith in
       let q : from + i ≡ from = omega arith in
-      rw y (subst (λ k. Wrote w v k (length w) (slice from (from + n) w) (At (to + n))) p (subst (λ k. Wrote w v (to + i) (length w) (slice k (from + n) w) (At (to + n))) q h))
+      rw y (subst (λ k. Wrote w v k (length w) (slice from (from + n) w) (Ok (to + n))) p (subst (λ k. Wrote w v (to + i) (length w) (slice k (from + n) w) (Ok (to + n))) q h))
 
 -- what a copy wrote
 pub is_copied : {w v : List ℕ} {i e d stop : ℕ} {xs : List ℕ} {r : Out} → Is w i e xs → Wrote w v d stop (take (e - i) (drop i w)) r → Wrote w v d stop xs r
@@ -410,8 +414,8 @@ module _ (w v : List ℕ) (at : ℕ) (b : at ≤ length w) where
     }
 
   pub wrote_lent : {d stop : ℕ} {xs : List ℕ} (r : Out) → Wrote lent v d stop xs r → Wrote w whole (at + d) (at + stop) xs (shift at r)
-  wrote_lent (At e) h = fitted (fitted_lent (h.fits e refl))
-  wrote_lent TooLarge h = failed (failed_lent (h.large refl))
+  wrote_lent (Ok e) h = fitted (fitted_lent (h.fits e refl))
+  wrote_lent (Err _) h = failed (failed_lent (h.large refl))
 
   -- at the tail's start, with all its room
   pub wrote_tail : {xs : List ℕ} {r : Out} (o : Out) → r ≡ o → Wrote lent v 0 (length w - at) xs r → Wrote w whole at (length w) xs (shift at o)
@@ -432,7 +436,7 @@ module _ {w v : List ℕ} {d stop : ℕ} {xs : List ℕ} {r : Out} where
 
 -- what was made above, from t to e, and moved down to d
 pub moved_fitted : {w u v : List ℕ} {t e d stop top : ℕ} {xs : List ℕ} → take d u ≡ take d w → drop top u ≡ drop top w → Is u t e xs
-    → d + length xs ≤ stop → stop ≤ top → Wrote u v d (length u) (take (e - t) (drop t u)) (At (d + (e - t))) → Fitted w v d stop top xs (d + (e - t))
+    → d + length xs ≤ stop → stop ≤ top → Wrote u v d (length u) (take (e - t) (drop t u)) (Ok (d + (e - t))) → Fitted w v d stop top xs (d + (e - t))
 moved_fitted {w} {u} {v} {t} {e} {d} {stop} {top} {xs} p q h a b k =
     let f = (is_copied h k).fits (d + (e - t)) refl in
     record {

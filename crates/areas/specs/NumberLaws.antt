@@ -1,9 +1,8 @@
 -- Laws of numbers of several bytes: a reader gives what stands there, a writer puts it there.
-use Rattle.std.specs.Prelude.{◌≡◌, refl, List, [], ◌∷◌, ℕ, ◌+◌, ◌-◌, ◌*◌, ◌/◌, ◌%◌, ◌^◌, ◌≤◌, ◌<◌, length, take, drop, set, get_or}
+use Rattle.std.specs.Prelude.{◌≡◌, refl, List, [], ◌∷◌, ℕ, ◌+◌, ◌-◌, ◌*◌, ◌/◌, ◌%◌, ◌^◌, ◌≤◌, ◌<◌, length, take, drop, set, get_or, Ok}
+use Rattle.areas.specs.Area.{Is, Wrote, head_bytes, Out}
 use Rattle.std.proofs.Common.{sym, ap, ap₂, subst, ◌∙◌, add_assoc, add-zero, arith, get_or-take, get_or-drop}
 use Rattle.spec_trees.specs.Bytes.{low, big}
-use Rattle.areas.specs.declared.area.Out.{Out}
-use Rattle.areas.specs.Area.{Is, Wrote, head_bytes}
 use Rattle.areas.specs.AreaLaws.{is_nth, wrote_none, wrote_keep, wrote_beyond, written, byte_before}
 use Rattle.areas.specs.Number.{two_at, two_bytes, word_at}
 
@@ -31,15 +30,15 @@ two_is {w} {at} n h =
     horner n a (is_nth h 1 (omega arith))
 
 pub stored_two : (w : List ℕ) (at n : ℕ) → at + 2 ≤ length w
-    → Wrote w (set (set w (at + 1) (n % 256)) at (n / 256)) at (at + 2) (two_bytes n) (Out.At (at + 2))
+    → Wrote w (set (set w (at + 1) (n % 256)) at (n / 256)) at (at + 2) (two_bytes n) (Ok (at + 2))
 stored_two w at n b =
     byte_before (n / 256) (omega arith) (omega arith) (store at 1 (n % 256) (omega arith) (omega arith) (wrote_none w (at + 2) (at + 2) (omega arith)))
 
 -- a tag stored before a length is a head
-pub head_stored : {w v : List ℕ} (d tag n : ℕ) → d + 3 ≤ length w → Wrote w v (d + 1) (d + 1 + 2) (two_bytes n) (Out.At (d + 1 + 2))
-    → Wrote w (set v d tag) d (d + 3) (head_bytes tag n) (Out.At (d + 3))
+pub head_stored : {w v : List ℕ} (d tag n : ℕ) → d + 3 ≤ length w → Wrote w v (d + 1) (d + 1 + 2) (two_bytes n) (Ok (d + 1 + 2))
+    → Wrote w (set v d tag) d (d + 3) (head_bytes tag n) (Ok (d + 3))
 head_stored {w} {v} d tag n b h =
-    byte_before tag (omega arith) (omega arith) (subst (λ m. Wrote w v (d + 1) m (two_bytes n) (Out.At m)) (add_assoc d 1 2) h)
+    byte_before tag (omega arith) (omega arith) (subst (λ m. Wrote w v (d + 1) m (two_bytes n) (Ok m)) (add_assoc d 1 2) h)
 
 -- in an area that changes elsewhere
 module _ (w v : List ℕ) (d : ℕ) where
@@ -64,7 +63,7 @@ pub record Put (w v : List ℕ) (a n : ℕ) : Type 0 where
   pub above : (b : ℕ) → a + 2 ≤ b → two_at v b ≡ two_at w b
   pub beyond : (b : ℕ) → a + 2 ≤ b → drop b v ≡ drop b w
 
-pub put : {w v : List ℕ} {a n : ℕ} → a + 2 ≤ length w → Wrote w v a (a + 2) (two_bytes n) (Out.At (a + 2)) → Put w v a n
+pub put : {w v : List ℕ} {a n : ℕ} → a + 2 ≤ length w → Wrote w v a (a + 2) (two_bytes n) (Ok (a + 2)) → Put w v a n
 put {w} {v} {a} {n} l h = record {
   here = two_is n (written h (omega arith) refl);
   below = two_below w v a (wrote_keep h (omega arith));
@@ -100,7 +99,7 @@ word_is {w} {at} x b h =
 
 pub stored_word : (w : List ℕ) (at a b c d e f g x : ℕ) → at + 8 ≤ length w
     → Wrote w (set (set (set (set (set (set (set (set w (at + 7) x) (at + 6) g) (at + 5) f) (at + 4) e) (at + 3) d) (at + 2) c) (at + 1) b) at a)
-    at (at + 8) (a ∷ b ∷ c ∷ d ∷ e ∷ f ∷ g ∷ x ∷ []) (Out.At (at + 8))
+    at (at + 8) (a ∷ b ∷ c ∷ d ∷ e ∷ f ∷ g ∷ x ∷ []) (Ok (at + 8))
 stored_word w at a b c d e f g x n =
     byte_before a (omega arith) (omega arith)
     (store at 1 b (omega arith) (omega arith) (store at 2 c (omega arith) (omega arith) (store at 3 d (omega arith) (omega arith)

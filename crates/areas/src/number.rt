@@ -1,8 +1,7 @@
 //! Numbers as bytes, high byte first: lengths and divisors in two, and integers in eight, which are kept as their 64
 //! bits. Whoever reads or writes such a number does it here.
-ghost use Rattle.std.specs.Prelude.{◌≡◌, ◌+◌, ◌≤◌, ◌<◌, length};
+ghost use Rattle.std.specs.Prelude.{◌≡◌, ◌+◌, ◌≤◌, ◌<◌, length, Ok};
 ghost use Rattle.spec_trees.specs.Bytes.{two_limit, big};
-ghost use Rattle.areas.specs.declared.area.Out.{Out};
 ghost use Rattle.areas.specs.Area.{Wrote};
 ghost use Rattle.areas.specs.Number.{two_at, two_bytes, word_at};
 
@@ -31,7 +30,7 @@ pub fn two_at(area: &[u8], at: usize) -> usize
 /// Stores a number at `at`, in two bytes.
 pub fn put_two(work: &mut [u8], at: usize, number: usize)
     requires { (at + 2 ≤ length work.old) × (number < two_limit) }
-    ensures { Wrote work.old work.new at (at + 2) (two_bytes number) (Out.At (at + 2)) }
+    ensures { Wrote work.old work.new at (at + 2) (two_bytes number) (Ok (at + 2)) }
 {
     work[at + 1] = (number % 256) as u8;
     work[at] = (number / 256) as u8;
@@ -51,7 +50,7 @@ pub fn word_at(area: &[u8], at: usize) -> u64
 /// Stores 64 bits at `at`, from the last byte to the first.
 pub fn put_word(work: &mut [u8], at: usize, bits: u64)
     requires { at + 8 ≤ length work.old }
-    ensures { Wrote work.old work.new at (at + 8) (big 8 bits) (Out.At (at + 8)) }
+    ensures { Wrote work.old work.new at (at + 8) (big 8 bits) (Ok (at + 8)) }
 {
     let g = bits / 256;
     let f = g / 256;

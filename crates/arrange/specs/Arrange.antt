@@ -18,7 +18,7 @@ use Rattle.spec_stages.specs.Positions.{Borne, unmarked, origin}
 use Rattle.keys.specs.Keys.{FewPairs}
 use Rattle.map.specs.Map.{trees_max, front_part, position_at}
 use Rattle.positions.specs.Bearing.{Bears}
-use Rattle.arrange.specs.declared.arrange.Filled.{Filled}
+use Rattle.key_index.specs.declared.front.Reached.{Reached}
 use Rattle.key_index.specs.Links.{Spot, elements, up, Walk}
 use Rattle.key_index.specs.Index.{numbers_at, base, next_at, subsets_max, Index, Collected}
 use Rattle.key_index.specs.Entering.{Stood}
@@ -44,18 +44,18 @@ abbrev pub index_at : ℕ
 index_at = front_part
 
 -- ---- the front: these trees stand there, and their numbers
-pub record Front (w : List ℕ) (f : Filled) (ms : List (ℕ × Tree)) : Type 0 where
+pub record Front (w : List ℕ) (f : Reached) (ms : List (ℕ × Tree)) : Type 0 where
   pub trees_is : Is w 0 f.to (array_trees (trees_of ms))
   pub numbers_is : Is w numbers_at (numbers_at + 2 * f.count) (number_bytes ms)
 
 -- there is room for n more bytes of trees; none has fewer than six, so there is for their numbers
-pub record Room (w : List ℕ) (f : Filled) (n : ℕ) : Type 0 where
+pub record Room (w : List ℕ) (f : Reached) (n : ℕ) : Type 0 where
   pub size : length w ≡ work_min
   pub sparse : 6 * f.count ≤ f.to
   pub fits : f.to + n ≤ trees_max
 
 -- ns were put there; from the index on all is as it was
-pub record Grows (w v : List ℕ) (f r : Filled) (ns : List (ℕ × Tree)) : Type 0 where
+pub record Grows (w v : List ℕ) (f r : Reached) (ns : List (ℕ × Tree)) : Type 0 where
   pub to_is : r.to ≡ f.to + length (array_trees (trees_of ns))
   pub sparse : 6 * f.count ≤ f.to → 6 * r.count ≤ r.to
   pub front : (ms : List (ℕ × Tree)) → Front w f ms → Front v r (ms ++ ns)
@@ -63,22 +63,22 @@ pub record Grows (w v : List ℕ) (f r : Filled) (ns : List (ℕ × Tree)) : Typ
   pub kept : drop index_at v ≡ drop index_at w
 
 -- ---- one tree
-abbrev pub Placed : (w v : List ℕ) (tree_at : Span) (n : ℕ) (f r : Filled) → Type 0
+abbrev pub Placed : (w v : List ℕ) (tree_at : Span) (n : ℕ) (f r : Reached) → Type 0
 Placed w v tree_at n f r = (t : Tree) → IsAt w tree_at (tree_bytes t) → Grows w v f r ((n, t) ∷ [])
 
 -- ---- the trees that the links lead through, from x, where one stands; the first gets the position that it bears
-pub record Following (w : List ℕ) (x : ℕ) (f : Filled) : Type 0 where
+pub record Following (w : List ℕ) (x : ℕ) (f : Reached) : Type 0 where
   pub some : x ≢ 0
   pub left : List (Spot Tree)
   pub below : ℕ
   pub walk : Walk (Stood w) (up 6) (λ a. two_at w (next_at a)) below x left
   pub room : Room w f (length (array_trees (elements left)))
 
-abbrev pub Follows : (w v : List ℕ) (x : ℕ) (f r : Filled) → Type 0
+abbrev pub Follows : (w v : List ℕ) (x : ℕ) (f r : Reached) → Type 0
 Follows w v x f r = (l : Following w x f) → Grows w v f r (headed (two_at w (position_at (x - base))) (elements l.left))
 
 -- ---- the classes of the subset m
-pub record Subset (w : List ℕ) (n m : ℕ) (f : Filled) : Type 0 where
+pub record Subset (w : List ℕ) (n m : ℕ) (f : Reached) : Type 0 where
   pub short : n ≤ trees_max
   pub grouping : List Pair
   pub few : FewPairs grouping
@@ -90,7 +90,7 @@ pub record Subset (w : List ℕ) (n m : ℕ) (f : Filled) : Type 0 where
   pub below : m < subsets_max
   pub room : Room w f (length (array_trees (flat (scan grouping m [] (unmarked borne)))))
 
-abbrev pub SubsetArranged : (w v : List ℕ) (n m : ℕ) (f r : Filled) → Type 0
+abbrev pub SubsetArranged : (w v : List ℕ) (n m : ℕ) (f r : Reached) → Type 0
 SubsetArranged w v n m f r = (s : Subset w n m f)
     → Grows w v f r (arranged (λ t. origin s.grouping t s.borne) (scan s.grouping m [] (unmarked s.borne)))
 

@@ -28,7 +28,7 @@ use Rattle.spec_stages.specs.Positions.{Borne, unmarked, origin}
 use Rattle.keys.specs.Keys.{FewPairs}
 use Rattle.map.specs.Map.{trees_max}
 use Rattle.positions.specs.Bearing.{Bears}
-use Rattle.arrange.specs.declared.arrange.Filled.{Filled}
+use Rattle.key_index.specs.declared.front.Reached.{Reached}
 use Rattle.key_index.specs.Index.{numbers_at, base, Index, Collected}
 use Rattle.key_index.specs.Entering.{EntersAll}
 use Rattle.arrange.specs.Arrange.{arranged, trees_of, number_bytes, index_at, Front, Grows, Subset, SubsetArranged, Arranged}
@@ -98,7 +98,7 @@ entered l h c = record {
   index = h.index c;
 }
 
-abbrev pub empty : Filled
+abbrev pub empty : Reached
 empty = record { to = 0; count = 0 }
 
 module _ {w₀ : List ℕ} {n : ℕ} {gs : List Pair} {bs : List Borne} (e : Entered w₀ n gs bs) where
@@ -113,7 +113,7 @@ module _ {w₀ : List ℕ} {n : ℕ} {gs : List Pair} {bs : List Borne} (e : Ent
   unfolding arranged gather
   arranging_begin = subst (λ l. Grows w₀ w₀ empty empty (arranged p l)) (sym (found_none gs ts)) (grows_none w₀ empty)
 
-  module _ {w : List ℕ} {f : Filled} (k : ℕ) (g : Grows w₀ w empty f (arranged p (found gs ts k))) where
+  module _ {w : List ℕ} {f : Reached} (k : ℕ) (g : Grows w₀ w empty f (arranged p (found gs ts k))) where
     filled_is : f.to ≡ length (array_trees (flat (found gs ts k)))
     filled_is = omega (arith, g.to_is, ap (λ l. length (array_trees l)) (arranged_trees p (found gs ts k)))
 
@@ -138,7 +138,7 @@ module _ {w₀ : List ℕ} {n : ℕ} {gs : List Pair} {bs : List Borne} (e : Ent
           };
         }
 
-    pub arranging_next : {v : List ℕ} {r : Filled} → k < 2 ^ length gs → SubsetArranged w v n k f r → Grows w₀ v empty r (arranged p (found gs ts (k + 1)))
+    pub arranging_next : {v : List ℕ} {r : Reached} → k < 2 ^ length gs → SubsetArranged w v n k f r → Grows w₀ v empty r (arranged p (found gs ts (k + 1)))
     unfolding arranging_subset
     arranging_next {v} {r} b h =
         subst (Grows w₀ v empty r) (sym (ap (arranged p) (found_more gs ts k) ∙ arranged_both p (found gs ts k) (scan gs k [] ts))) (grows_then g (h (arranging_subset b)))

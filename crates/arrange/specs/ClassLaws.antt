@@ -12,7 +12,7 @@ use Rattle.areas.specs.Number.{two_at}
 use Rattle.queries.specs.TreesLaws.{six, length_cons, length_none}
 use Rattle.queries.specs.Places.{array_trees, HoldsAt}
 use Rattle.map.specs.Map.{trees_max, position_at}
-use Rattle.arrange.specs.declared.arrange.Filled.{Filled}
+use Rattle.key_index.specs.declared.front.Reached.{Reached}
 use Rattle.key_index.specs.Links.{Spot, elements, up, Walk}
 use Rattle.key_index.specs.IndexLaws.{walk_ended, walk_on}
 use Rattle.key_index.specs.Index.{base, next_at, size_of}
@@ -23,7 +23,7 @@ use Rattle.key_index.specs.StandingLaws.{tree_end}
 use Rattle.arrange.specs.FrontLaws.{grows_none, grows_then}
 
 -- some trees are copied, and the links lead through those that are left
-pub record Copying (w₀ : List ℕ) (x : ℕ) (f₀ : Filled) (l : Following w₀ x f₀) (w : List ℕ) (f : Filled) (n at : ℕ) : Type 0 where
+pub record Copying (w₀ : List ℕ) (x : ℕ) (f₀ : Reached) (l : Following w₀ x f₀) (w : List ℕ) (f : Reached) (n at : ℕ) : Type 0 where
   pub done : List (ℕ × Tree)
   pub grows : Grows w₀ w f₀ f done
   pub left : List (Spot Tree)
@@ -33,7 +33,7 @@ pub record Copying (w₀ : List ℕ) (x : ℕ) (f₀ : Filled) (l : Following w�
   pub room : f.to + length (array_trees (elements left)) ≤ trees_max
   pub small : n < two_limit
 
-module _ {w₀ : List ℕ} {x : ℕ} {f₀ : Filled} (l : Following w₀ x f₀) where
+module _ {w₀ : List ℕ} {x : ℕ} {f₀ : Reached} (l : Following w₀ x f₀) where
   -- the first of them is a collected tree, so it bears a position
   pub first_places : (base ≤ x) × (x - base + 6 ≤ trees_max) × (length w₀ ≡ work_min)
   first_places =
@@ -52,7 +52,7 @@ module _ {w₀ : List ℕ} {x : ℕ} {f₀ : Filled} (l : Following w₀ x f₀)
     small = b;
   }
 
-  module _ {w : List ℕ} {f : Filled} {n at : ℕ} (c : Copying w₀ x f₀ l w f n at) where
+  module _ {w : List ℕ} {f : Reached} {n at : ℕ} (c : Copying w₀ x f₀ l w f n at) where
     pub copying_end : at ≡ 0 → Grows w₀ w f₀ f (headed (two_at w₀ (position_at (x - base))) (elements l.left))
     unfolding headed
     copying_end z =
@@ -89,7 +89,7 @@ module _ {w₀ : List ℕ} {x : ℕ} {f₀ : Filled} (l : Following w₀ x f₀)
       pub copying_tree : HoldsAt tree_bytes w (span at (field_end w at))
       copying_tree = record { value = one.0; value_is = subst (λ e. Is w at e (tree_bytes one.0)) (sym ends) tree_here }
 
-      module _ {m : ℕ} {v : List ℕ} {r : Filled} (z : m ≡ field_end w at) (p : Placed w v (span at m) n f r) where
+      module _ {m : ℕ} {v : List ℕ} {r : Reached} (z : m ≡ field_end w at) (p : Placed w v (span at m) n f r) where
         placed : Grows w v f r ((n, one.0) ∷ [])
         placed = p one.0 (subst (λ e. Is w at e (tree_bytes one.0)) (sym (z ∙ ends)) tree_here)
 

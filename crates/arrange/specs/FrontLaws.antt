@@ -1,5 +1,5 @@
 -- Laws of the front as it grows: one tree, several, one list of trees behind another.
-use Rattle.std.specs.Prelude.{◌≡◌, ℕ, ◌+◌, ◌*◌, ◌-◌, ◌≤◌, length, take, drop}
+use Rattle.std.specs.Prelude.{◌≡◌, ℕ, ◌+◌, ◌*◌, ◌-◌, ◌≤◌, length, take, drop, Ok}
 use Rattle.std.proofs.Math.Path.{refl, ap, ap₂}
 use Rattle.std.proofs.Common.{sym, subst, ◌∙◌, arith, length-append}
 use mathlib.Core.List.{List, [], ◌∷◌, ◌++◌, map-append, append-nil, append_assoc}
@@ -8,7 +8,6 @@ use Rattle.spec_trees.specs.FilterLaws.{gather_append}
 use Rattle.spec_trees.specs.Tree.{Tree}
 use Rattle.spec_trees.specs.Bytes.{tree_bytes}
 use Rattle.areas.specs.Area.{Is, IsAt, Wrote, span}
-use Rattle.areas.specs.declared.area.Out.TheVariants.{At}
 use Rattle.areas.specs.AreaLaws.{is_beyond, is_keep, is_join, is_copied, wrote_keep, wrote_beyond, written, drop_more}
 use Rattle.areas.specs.Number.{two_bytes}
 use Rattle.queries.specs.Places.{array_trees}
@@ -16,7 +15,7 @@ use Rattle.queries.specs.TreesLaws.{array_behind, six, length_cons, length_none}
 use Rattle.paths.specs.ComparedLaws.{trees_append}
 use Rattle.spec_stages.specs.Group.{Class}
 use Rattle.spec_stages.specs.Flat.{members, flat}
-use Rattle.arrange.specs.declared.arrange.Filled.{Filled}
+use Rattle.key_index.specs.declared.front.Reached.{Reached}
 use Rattle.key_index.specs.Index.{numbers_at, base}
 use Rattle.arrange.specs.Arrange.{headed, arranged, trees_of, number_bytes, index_at, Front, Room, Grows}
 
@@ -53,7 +52,7 @@ module _ (p : Tree → ℕ) where
   arranged_both xs ys = gather_append (λ c. headed (p c.0) (members c)) xs ys
 
 -- ---- nothing more, and one list behind another
-pub grows_none : (w : List ℕ) (f : Filled) → Grows w w f f []
+pub grows_none : (w : List ℕ) (f : Reached) → Grows w w f f []
 grows_none w f = record {
   to_is = omega (arith, length_none);
   sparse = λ h. h;
@@ -62,7 +61,7 @@ grows_none w f = record {
   kept = refl;
 }
 
-pub grows_then : {w x v : List ℕ} {f g r : Filled} {ms ns : List (ℕ × Tree)} → Grows w x f g ms → Grows x v g r ns → Grows w v f r (ms ++ ns)
+pub grows_then : {w x v : List ℕ} {f g r : Reached} {ms ns : List (ℕ × Tree)} → Grows w x f g ms → Grows x v g r ns → Grows w v f r (ms ++ ns)
 grows_then {v = v} {r = r} {ms = ms} {ns = ns} h k = record {
   to_is = omega (arith, h.to_is, k.to_is, ap (λ l. length (array_trees l)) (map-append (λ m. m.1) ms ns), length_both (trees_of ms) (trees_of ns));
   sparse = λ s. k.sparse (h.sparse s);
@@ -72,9 +71,9 @@ grows_then {v = v} {r = r} {ms = ms} {ns = ns} h k = record {
 }
 
 -- ---- one tree
-module _ {w x v : List ℕ} {p e n : ℕ} {f : Filled} (l : Room w f (e - p)) (b : base ≤ p)
-    (c : Wrote w x f.to (length w) (take (e - p) (drop p w)) (At (f.to + (e - p)))) (lx : length x ≡ length w)
-    (d : Wrote x v (numbers_at + 2 * f.count) (numbers_at + 2 * f.count + 2) (two_bytes n) (At (numbers_at + 2 * f.count + 2))) (lv : length v ≡ length x) where
+module _ {w x v : List ℕ} {p e n : ℕ} {f : Reached} (l : Room w f (e - p)) (b : base ≤ p)
+    (c : Wrote w x f.to (length w) (take (e - p) (drop p w)) (Ok (f.to + (e - p)))) (lx : length x ≡ length w)
+    (d : Wrote x v (numbers_at + 2 * f.count) (numbers_at + 2 * f.count + 2) (two_bytes n) (Ok (numbers_at + 2 * f.count + 2))) (lv : length v ≡ length x) where
   pub grows_one : (t : Tree) → IsAt w (span p e) (tree_bytes t) → Grows w v f (record { to = f.to + (e - p); count = f.count + 1 }) ((n, t) ∷ [])
   grows_one t h =
       let s = six t in

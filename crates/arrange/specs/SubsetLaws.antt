@@ -23,7 +23,7 @@ use Rattle.spec_stages.specs.Flat.{members, flat}
 use Rattle.spec_stages.proofs.AlikeLaws.{alike_equivalence}
 use Rattle.spec_stages.specs.Positions.{unmarked, origin}
 use Rattle.map.specs.Map.{trees_max, position_at}
-use Rattle.arrange.specs.declared.arrange.Filled.{Filled}
+use Rattle.key_index.specs.declared.front.Reached.{Reached}
 use Rattle.key_index.specs.Links.{Spot, spots, end, elements, up, passing, Walk}
 use Rattle.key_index.specs.SpotsLaws.{spots_append, spots_elements}
 use Rattle.key_index.specs.IndexLaws.{class_walk, class_elements}
@@ -68,11 +68,11 @@ unfolding flat gather
 flat_cons c cs = refl
 
 -- the position of the first tree that has the key of t
-abbrev pub position_in : {w : List ℕ} {n m : ℕ} {f : Filled} → Subset w n m f → Tree → ℕ
+abbrev pub position_in : {w : List ℕ} {n m : ℕ} {f : Reached} → Subset w n m f → Tree → ℕ
 position_in s t = origin s.grouping t s.borne
 
 -- ---- some trees were asked, and some are left, in which k classes begin
-pub record Scanning (w₀ : List ℕ) (n m : ℕ) (f₀ : Filled) (s : Subset w₀ n m f₀) (w : List ℕ) (f : Filled) (at k : ℕ) : Type 0 where
+pub record Scanning (w₀ : List ℕ) (n m : ℕ) (f₀ : Reached) (s : Subset w₀ n m f₀) (w : List ℕ) (f : Reached) (at k : ℕ) : Type 0 where
   pub done : List Class
   pub grows : Grows w₀ w f₀ f (arranged (position_in s) done)
   pub seen : List Tree
@@ -84,7 +84,7 @@ pub record Scanning (w₀ : List ℕ) (n m : ℕ) (f₀ : Filled) (s : Subset w�
   pub room : f.to + length (array_trees (flat (scan s.grouping m seen left))) ≤ trees_max
   pub count : k ≡ length (scan s.grouping m seen left)
 
-module _ {w₀ : List ℕ} {n m : ℕ} {f₀ : Filled} (s : Subset w₀ n m f₀) where
+module _ {w₀ : List ℕ} {n m : ℕ} {f₀ : Reached} (s : Subset w₀ n m f₀) where
   pub scanning_begin : {k : ℕ} → k ≡ two_at w₀ (count_at m) → Scanning w₀ n m f₀ s w₀ f₀ base k
   unfolding arranged gather
   scanning_begin z = record {
@@ -100,7 +100,7 @@ module _ {w₀ : List ℕ} {n m : ℕ} {f₀ : Filled} (s : Subset w₀ n m f₀
     count = z ∙ s.index.counts m s.below;
   }
 
-  module _ {w : List ℕ} {f : Filled} {at k : ℕ} (c : Scanning w₀ n m f₀ s w f at k) where
+  module _ {w : List ℕ} {f : Reached} {at k : ℕ} (c : Scanning w₀ n m f₀ s w f at k) where
     pub scanning_end : k ≡ 0 → Grows w₀ w f₀ f (arranged (position_in s) (scan s.grouping m [] (unmarked s.borne)))
     scanning_end z =
         subst (λ l. Grows w₀ w f₀ f (arranged (position_in s) l))
@@ -219,7 +219,7 @@ module _ {w₀ : List ℕ} {n m : ℕ} {f₀ : Filled} (s : Subset w₀ n m f₀
           };
         }
 
-        pub scanning_next : {v : List ℕ} {r : Filled} → Follows w v at f r → Scanning w₀ n m f₀ s v r e (k - 1)
+        pub scanning_next : {v : List ℕ} {r : Reached} → Follows w v at f r → Scanning w₀ n m f₀ s v r e (k - 1)
         unfolding scanning_class
         scanning_next {v} {r} p =
             let copied = subst (λ l. Grows w v f r (headed (two_at w (position_at (at - base))) l)) its_trees (p scanning_class) in

@@ -12,25 +12,19 @@ use areas::area::{copy_down, field_end};
 use areas::number::{put_two, two_at};
 use areas::span::Span;
 use key_index::enter::enter_all;
+use key_index::front::Reached;
 use key_index::index::Index;
 use keys::key::subsets;
 use positions::bear::position_at;
 
-/// How far the front is filled: where the next tree goes, and how many stand there.
-#[derive(Clone, Copy)]
-pub struct Filled {
-    pub to: usize,
-    pub count: usize,
-}
-
 /// Puts the tree behind those at the front, with its number.
-fn place(work: &mut [u8], tree: Span, number: usize, filled: Filled) -> Filled
+fn place(work: &mut [u8], tree: Span, number: usize, filled: Reached) -> Reached
     requires { Room work.old filled (tree.to - tree.from) × HoldsAt tree_bytes work.old tree × (base ≤ tree.from) × (number < work_min) }
     ensures { Placed work.old work.new tree number filled result }
 {
     copy_down(work, tree, filled.to);
     put_two(work, Index::NUMBERS + 2 * filled.count, number);
-    Filled {
+    Reached {
         to: filled.to + (tree.to - tree.from),
         count: filled.count + 1,
     }
@@ -38,7 +32,7 @@ fn place(work: &mut [u8], tree: Span, number: usize, filled: Filled) -> Filled
 
 /// Puts the class of the tree at `first` there: that tree, with the position that it bears, and those behind it with
 /// its key.
-fn arrange_class(work: &mut [u8], first: usize, filled: Filled) -> Filled
+fn arrange_class(work: &mut [u8], first: usize, filled: Reached) -> Reached
     requires { Following work.old first filled }
     ensures { Follows work.old work.new first filled result }
 {
@@ -56,7 +50,7 @@ fn arrange_class(work: &mut [u8], first: usize, filled: Filled) -> Filled
 
 /// Puts the classes of the subset there, of the collected trees, which take `len` bytes. How many there are is known,
 /// so that no tree behind the last first one is looked at, and none at all for a subset that no tree has.
-fn arrange_subset(work: &mut [u8], len: usize, subset: usize, filled: Filled) -> Filled
+fn arrange_subset(work: &mut [u8], len: usize, subset: usize, filled: Reached) -> Reached
     requires { Subset work.old len subset filled }
     ensures { SubsetArranged work.old work.new len subset filled result }
 {
@@ -81,10 +75,8 @@ pub fn arrange(work: &mut [u8], query: &[u8], keys: Span, len: usize)
 {
     enter_all(work, query, keys, len);
     let total = subsets(query, keys);
-    let mut filled = Filled { to: 0, count: 0 };
-    let mut k = 0;
-    while k != total {
+    let mut filled = Reached { to: 0, count: 0 };
+    for k in 0..total {
         filled = arrange_subset(work, len, k, filled);
-        k += 1;
     }
 }

@@ -1,13 +1,11 @@
 -- Laws of bare trees, and of writing them.
-use Rattle.std.specs.Prelude.{◌≡◌, refl, List, ℕ, ◌+◌, ◌-◌, ◌≤◌, ◌<◌, length}
+use Rattle.std.specs.Prelude.{◌≡◌, refl, List, ℕ, ◌+◌, ◌-◌, ◌≤◌, ◌<◌, length, Ok, Err}
 use Rattle.std.proofs.Common.{sym, ap, subst, arith}
-use Rattle.areas.specs.declared.area.Out.{Out}
-use Rattle.areas.specs.declared.area.Out.TheVariants.{At, TooLarge}
 use Rattle.spec_trees.specs.Tree.{Root, node, bare}
 use Rattle.spec_trees.specs.Bytes.{field_bytes, big, root_f, tree_f, tree_bytes}
 use Rattle.spec_trees.proofs.FieldLaws.{bytes_one}
 use Rattle.spec_trees.specs.NumberLaws.{length_big}
-use Rattle.areas.specs.Area.{Wrote, Finishable, Finished, head_bytes}
+use Rattle.areas.specs.Area.{Wrote, Finishable, Finished, head_bytes, Out, too_large}
 use Rattle.areas.specs.AreaLaws.{no_room, wrote_wider, length_field, finish_at, finishable}
 use Rattle.bare.specs.Bare.{bare_tree, integer_tree}
 
@@ -20,7 +18,7 @@ bare_length : (tag : ℕ) (c : List ℕ) → length (bare_tree tag c) ≡ 6 + le
 bare_length tag c = omega (arith, length_field (2, field_bytes (tag, c)), length_field (tag, c))
 
 -- ---- any content: it, the root's head, the tree's head
-pub root_large : (w : List ℕ) (d stop tag : ℕ) (c : List ℕ) → d ≤ stop → stop - d < 6 → Wrote w w d stop (bare_tree tag c) TooLarge
+pub root_large : (w : List ℕ) (d stop tag : ℕ) (c : List ℕ) → d ≤ stop → stop - d < 6 → Wrote w w d stop (bare_tree tag c) (Err too_large)
 root_large w d stop tag c b h = no_room w d stop (bare_tree tag c) (omega (arith, b, h, bare_length tag c))
 
 module _ {w v : List ℕ} (d stop tag : ℕ) (c : List ℕ) {r : Out} (l : stop ≤ length w) (m : length v ≡ length w) (h : Wrote w v (d + 6) stop c r) where
@@ -43,18 +41,18 @@ module _ {w v : List ℕ} (d stop tag : ℕ) (c : List ℕ) {r : Out} (l : stop 
 integer_length : (x : ℕ) → length (integer_tree x) ≡ 14
 integer_length x = omega (arith, bare_length 5 (big 8 x), length_big 8 x)
 
-pub integer_large : (w : List ℕ) (d stop x : ℕ) → stop < d + 14 → Wrote w w d stop (integer_tree x) TooLarge
+pub integer_large : (w : List ℕ) (d stop x : ℕ) → stop < d + 14 → Wrote w w d stop (integer_tree x) (Err too_large)
 integer_large w d stop x h = no_room w d stop (integer_tree x) (omega (arith, integer_length x))
 
 -- the bits, the root's head, the tree's head
 module _ {w v u t : List ℕ} (d stop x : ℕ) where
-  pub integer_fits : d + 14 ≤ stop → stop ≤ length w → length v ≡ length w → length u ≡ length w → Wrote w v (d + 6) (d + 6 + 8) (big 8 x) (At (d + 6 + 8))
-      → Wrote v u (d + 3) (d + 3 + 3) (head_bytes 5 (d + 14 - (d + 3 + 3))) (At (d + 3 + 3))
-      → Wrote u t d (d + 3) (head_bytes 2 (d + 14 - (d + 3))) (At (d + 3)) → Wrote w t d stop (integer_tree x) (At (d + 14))
+  pub integer_fits : d + 14 ≤ stop → stop ≤ length w → length v ≡ length w → length u ≡ length w → Wrote w v (d + 6) (d + 6 + 8) (big 8 x) (Ok (d + 6 + 8))
+      → Wrote v u (d + 3) (d + 3 + 3) (head_bytes 5 (d + 14 - (d + 3 + 3))) (Ok (d + 3 + 3))
+      → Wrote u t d (d + 3) (head_bytes 2 (d + 14 - (d + 3))) (Ok (d + 3)) → Wrote w t d stop (integer_tree x) (Ok (d + 14))
   integer_fits r l m n a b c =
       let p : d + 6 ≡ d + 3 + 3 = omega arith in
       let e : d + 6 + 8 ≡ d + 14 = omega arith in
-      let a2 = subst (λ i. Wrote w v i stop (big 8 x) (At (d + 14))) p
-      (wrote_wider stop r (subst (λ i. Wrote w v (d + 6) i (big 8 x) (At i)) e a)) in
+      let a2 = subst (λ i. Wrote w v i stop (big 8 x) (Ok (d + 14))) p
+      (wrote_wider stop r (subst (λ i. Wrote w v (d + 6) i (big 8 x) (Ok i)) e a)) in
       let b2 = finish_at v (d + 3) 5 {v = u} (omega arith) (omega arith) refl b w stop (big 8 x) (omega arith) a2 in
       finish_at u d 2 {v = t} (omega arith) (omega arith) refl c w stop (field_bytes (5, big 8 x)) (omega arith) b2

@@ -1,8 +1,7 @@
 -- Laws of a part that goes behind a tree: when it does, what the merge is then, and its bytes where it was put.
-use Rattle.std.specs.Prelude.{◌≡◌, refl, List, ◌++◌, Bool, true, false, ℕ, ◌+◌, ◌-◌, ◌≤◌, ◌<◌, max, length, take, drop, get_or, ltb, leb}
+use Rattle.std.specs.Prelude.{◌≡◌, refl, List, ◌++◌, Bool, true, false, ℕ, ◌+◌, ◌-◌, ◌≤◌, ◌<◌, max, length, take, drop, get_or, ltb, leb, Err, Ok as At}
 use Rattle.std.proofs.Common.{sym, ap, ap₂, subst, ◌∙◌, append_assoc, arith, length-append, take-append-drop, take-take, lt-ltb, ltb-true, leb-true, leb-false, le-leb}
 use Rattle.std.proofs.lemmas.Bool.{lt-leb}
-use Rattle.areas.specs.declared.area.Out.TheVariants.{At, TooLarge}
 use Rattle.areas.specs.declared.span.Span.{Span}
 use Rattle.spec_trees.specs.Limits.{tree_max, depth_max}
 use Rattle.spec_trees.specs.OptionLaws.{split}
@@ -11,7 +10,7 @@ use Rattle.spec_trees.specs.Size.{size, depth, depth_l, fits}
 use Rattle.spec_trees.specs.SizeLaws.{length_tree}
 use Rattle.spec_trees.specs.Bytes.{field_bytes, bytes, tree_f, label_fs, tree_bytes}
 use Rattle.spec_trees.specs.Within.{Ok, OkL}
-use Rattle.areas.specs.Area.{Is, span, Wrote, head_bytes, field_end}
+use Rattle.areas.specs.Area.{Is, span, Wrote, head_bytes, field_end, too_large}
 use Rattle.areas.specs.AreaLaws.{length_field, is_content, fitted, drop_more, wrote_keep, written, wrote_seq, finish_at, is_copied}
 use Rattle.format.specs.Labels.{label_at}
 use Rattle.format.specs.Stand.{root_bytes, labels_bytes, entry_bytes}
@@ -170,7 +169,7 @@ module _ {w : List ℕ} {s se i ie l e : ℕ} (h : Addable w (span s se) (span i
         )
 
   -- too many bytes
-  pub append_large : tree_max < e - s → Added w w (span s se) (span i ie) TooLarge
+  pub append_large : tree_max < e - s → Added w w (span s se) (span i ie) (Err too_large)
   append_large q x y ox oy hx hy =
       refused (both (part_fits h k y hy) (fits_not (merge x y) (omega (arith, joined_ends x y ox oy hx hy)))) refl (λ top n. refl)
 
@@ -182,7 +181,7 @@ module _ {w : List ℕ} {s se i ie l e : ℕ} (h : Addable w (span s se) (span i
         (ap (λ n. leb n depth_max) (merged_depth x y ox oy (b x y ox hx hy refl)) ∙ deeper (depth x) (depth y) depth_max (depth_said y hy k) ∙ depth_said x hx f)
 
     -- too deep
-    pub append_deep : d ≡ false → Added w w (span s se) (span i ie) TooLarge
+    pub append_deep : d ≡ false → Added w w (span s se) (span i ie) (Err too_large)
     append_deep q x y ox oy hx hy = refused (both (part_fits h k y hy) (merge_fits x y ox oy hx hy ∙ q)) refl (λ top n. refl)
 
   module _ {w1 w2 : List ℕ} (l1 : length w1 ≡ length w) (m : Wrote w w1 se (length w) (take (ie - l) (drop l w)) (At (se + (ie - l))))

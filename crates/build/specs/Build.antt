@@ -1,14 +1,12 @@
 -- What adding a part to a tree asks of the area, and does.
-use Rattle.std.specs.Prelude.{◌≡◌, List, Bool, true, false, ◌&&◌, ℕ, ◌+◌, ◌≤◌, length, take, drop, leb}
-use Rattle.areas.specs.declared.area.Out.{Out}
+use Rattle.std.specs.Prelude.{◌≡◌, List, Bool, true, false, ◌&&◌, ℕ, ◌+◌, ◌≤◌, length, take, drop, leb, Err, Ok as At}
 use Rattle.areas.specs.declared.span.Span.{Span}
-use Rattle.areas.specs.declared.area.Out.TheVariants.{At, TooLarge}
 use Rattle.spec_trees.specs.Limits.{tree_max, depth_max, work_min}
 use Rattle.spec_trees.specs.Tree.{Tree}
 use Rattle.spec_trees.specs.Size.{size, depth_a, fits}
 use Rattle.spec_trees.specs.Bytes.{tree_bytes}
 use Rattle.spec_trees.specs.Within.{Ok}
-use Rattle.areas.specs.Area.{Is, IsAt}
+use Rattle.areas.specs.Area.{Is, IsAt, Out, too_large}
 use Rattle.format.specs.Stand.{Says, trees_bytes}
 use Rattle.spec_stages.specs.Merge.{merge}
 
@@ -37,7 +35,7 @@ pub record PartAdded (w v : List ℕ) (s ie : ℕ) (x y : Tree) (r : Out) : Type
   pub fit : (e : ℕ) → r ≡ At e → (fits y && fits (merge x y)) ≡ true
   pub merge_is : (e : ℕ) → r ≡ At e → Is v s e (tree_bytes (merge x y))
   pub ends : (e : ℕ) → r ≡ At e → e ≡ s + size (merge x y)
-  pub large : r ≡ TooLarge → (fits y && fits (merge x y)) ≡ false
+  pub large : r ≡ Err too_large → (fits y && fits (merge x y)) ≡ false
   pub below : take s v ≡ take s w
   pub beyond : (top : ℕ) → ie + tree_max ≤ top → drop top v ≡ drop top w
 

@@ -1,22 +1,19 @@
 -- A part that is added to a tree where both stand: the tests that are made there are those of `build`, and so is the
 -- merge.
-use Rattle.std.specs.Prelude.{◌≡◌, refl, List, [], ◌∷◌, Bool, true, false, ◌&&◌, ℕ, ◌+◌, ◌-◌, ◌≤◌, ◌<◌, length, take, drop, leb}
+use Rattle.std.specs.Prelude.{◌≡◌, refl, List, ◌∷◌, Bool, true, false, ◌&&◌, ℕ, ◌+◌, ◌-◌, ◌≤◌, ◌<◌, length, take, drop, leb, Err, Ok as At}
 use Rattle.std.proofs.Common.{sym, ap, ap₂, subst, ◌∙◌, append-nil, arith, le-leb}
-use Rattle.std.proofs.Math.Option.{none, some}
+use Rattle.std.proofs.Math.Option.{none}
 use Rattle.std.proofs.lemmas.Bool.{lt-leb}
-use Rattle.areas.specs.declared.area.Out.{Out}
-use Rattle.areas.specs.declared.area.Out.TheVariants.{At, TooLarge}
-use Rattle.spec_trees.specs.Limits.{tree_max, depth_max, work_min}
+use Rattle.spec_trees.specs.Limits.{tree_max, depth_max}
 use Rattle.spec_trees.specs.Tree.{Tree, ε, ◌▹◌, bare_void}
 use Rattle.spec_trees.specs.Size.{size, depth, depth_a, fits}
 use Rattle.spec_trees.specs.SizeLaws.{length_tree}
 use Rattle.spec_trees.specs.Bytes.{field_bytes, bytes, tree_f, tree_bytes}
 use Rattle.spec_trees.specs.Within.{Ok}
-use Rattle.areas.specs.Area.{Is, span, Fitted, Wrote}
-use Rattle.areas.specs.AreaLaws.{take_less, is_keep, told, fitted_keep, fitted_is, wrote_keep, written, wrote_beyond, moved_fitted}
+use Rattle.areas.specs.Area.{Is, span, Fitted, Wrote, Out, too_large}
+use Rattle.areas.specs.AreaLaws.{take_less, is_keep, fitted_keep, fitted_is, wrote_keep, written, wrote_beyond, moved_fitted}
 use Rattle.format.specs.Stand.{trees_bytes, Holds}
 use Rattle.spec_stages.specs.Merge.{merge, build}
-use Rattle.spec_stages.proofs.KeepLaws.{merge_ok}
 use Rattle.merge.specs.MergeBytes.{MergeReady, TreesMerged}
 use Rattle.build.specs.Build.{DepthSaid, Standing, Addable, PartAdded, Added}
 
@@ -34,7 +31,7 @@ module _ {w u : List ℕ} {s ie : ℕ} {x y : Tree} {r : Out} (h : PartAdded w u
   pub added_next : {e : ℕ} → r ≡ At e → build x (y ∷ ts) ≡ build (merge x y) ts
   added_next {e} q = build_next x y ts (h.fit e q)
 
-  pub added_large : r ≡ TooLarge → build x (y ∷ ts) ≡ none
+  pub added_large : r ≡ Err too_large → build x (y ∷ ts) ≡ none
   added_large q = build_large x y ts (h.large q)
 
 -- ---- a well formed tree that stands there
@@ -75,7 +72,7 @@ pub both : {a b x y : Bool} → a ≡ x → b ≡ y → (a && b) ≡ (x && y)
 both p q = ap₂ ◌&&◌ p q
 
 pub refused : {w u : List ℕ} {s ie : ℕ} {x y : Tree} → (fits y && fits (merge x y)) ≡ false → take s u ≡ take s w
-    → ((top : ℕ) → ie + tree_max ≤ top → drop top u ≡ drop top w) → PartAdded w u s ie x y TooLarge
+    → ((top : ℕ) → ie + tree_max ≤ top → drop top u ≡ drop top w) → PartAdded w u s ie x y (Err too_large)
 refused q a b = record {
   fit = λ e z. let y : ◌≡◌ {A = ℕ} 0 1 = cc in absurd (omega arith);
   merge_is = λ e z. let y : ◌≡◌ {A = ℕ} 0 1 = cc in absurd (omega arith);
@@ -107,7 +104,7 @@ module _ {w : List ℕ} {s se i ie : ℕ} (h : Addable w (span s se) (span i ie)
         fits_by_depth y o b (depth_said y hy k)
 
     -- the part is too deep
-    pub part_deep : o ≡ false → Added w w (span s se) (span i ie) TooLarge
+    pub part_deep : o ≡ false → Added w w (span s se) (span i ie) (Err too_large)
     part_deep q x y ox oy hx hy = refused (ap (λ a. a && fits (merge x y)) (part_fits y hy ∙ q)) refl (λ top b. refl)
 
     module _ (z : o ≡ true) {u : List ℕ} {r : Out} (m : TreesMerged w u (span s se) (span i ie) (span ie (ie + tree_max)) r) where
@@ -122,11 +119,11 @@ module _ {w : List ℕ} {s se i ie : ℕ} (h : Addable w (span s se) (span i ie)
         made_beyond : (top : ℕ) → ie + tree_max ≤ top → drop top u ≡ drop top w
         made_beyond top b = wrote_beyond b made
 
-        made_refused : fits (merge x y) ≡ false → PartAdded w u s ie x y TooLarge
+        made_refused : fits (merge x y) ≡ false → PartAdded w u s ie x y (Err too_large)
         made_refused q = refused (both (part_fits y hy ∙ z) q) made_below made_beyond
 
       -- the merge is too large
-      pub merge_large : r ≡ TooLarge → Added w u (span s se) (span i ie) TooLarge
+      pub merge_large : r ≡ Err too_large → Added w u (span s se) (span i ie) (Err too_large)
       merge_large q x y ox oy hx hy =
           made_refused x y ox oy hx hy
           (fits_not (merge x y) (omega (arith, ((made x y ox oy hx hy).large q).over, length_tree (merge x y))))
@@ -151,7 +148,7 @@ module _ {w : List ℕ} {s se i ie : ℕ} (h : Addable w (span s se) (span i ie)
 
         module _ {d : Bool} (l : DepthSaid u (span ie e) d) where
           -- the merge is too deep
-          pub merge_deep : d ≡ false → Added w u (span s se) (span i ie) TooLarge
+          pub merge_deep : d ≡ false → Added w u (span s se) (span i ie) (Err too_large)
           merge_deep c x y ox oy hx hy =
               let g = (made x y ox oy hx hy).fits e q in
               let b : size (merge x y) ≤ tree_max = omega (arith, g.ends, g.room, length_tree (merge x y)) in

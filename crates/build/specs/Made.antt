@@ -1,22 +1,19 @@
 -- A tree that is built in an area of parts, each merged and tested: what is asked of the area, and what was made.
-use Rattle.std.specs.Prelude.{◌≡◌, List, ℕ, ◌+◌, ◌*◌, ◌≤◌, length, take, drop}
+use Rattle.std.specs.Prelude.{◌≡◌, List, ℕ, ◌+◌, ◌*◌, ◌≤◌, length, take, drop, Some, Ok as At, Err}
 use Rattle.std.proofs.Math.Option.{Option, none, some}
-use Rattle.areas.specs.declared.area.Out.{Out}
 use Rattle.areas.specs.declared.span.Span.{Span}
-use Rattle.areas.specs.declared.area.Out.TheVariants.{At, TooLarge}
 use Rattle.spec_trees.specs.Limits.{tree_max, work_min}
 use Rattle.spec_trees.specs.Tree.{Tree}
 use Rattle.spec_trees.specs.Bytes.{tree_bytes}
 use Rattle.spec_trees.specs.Within.{Ok}
-use Rattle.areas.specs.Area.{Is, IsAt, span, Wrote}
+use Rattle.areas.specs.Area.{Is, IsAt, span, Wrote, Out, too_large}
 use Rattle.spec_queries.specs.Query.{Path}
 use Rattle.queries.specs.Places.{path_bytes}
 use Rattle.queries.specs.Steps.{step_count}
 use Rattle.spec_stages.specs.Paths.{Given}
 use Rattle.spec_stages.specs.Project.{placed}
 use Rattle.build.specs.Build.{Standing, PartAdded}
-use Rattle.data.specs.declared.value.Value.{Value}
-use Rattle.data.specs.Value.{WroteFound}
+use Rattle.data.specs.Value.{Value, WroteFound}
 use Rattle.place.specs.Writers.{Along}
 use Rattle.place.specs.Place.{place_room, room_at}
 
@@ -32,7 +29,7 @@ pub record Stood (v : List ℕ) (s e : ℕ) (x : Option Tree) : Type 0 where
 -- three rooms above s on, all is as it was
 pub record Made (w v : List ℕ) (s : ℕ) (x : Option Tree) (r : Out) : Type 0 where
   pub tree_is : (e : ℕ) → r ≡ At e → Stood v s e x
-  pub large : r ≡ TooLarge → x ≡ none
+  pub large : r ≡ Err too_large → x ≡ none
   pub below : take s v ≡ take s w
   pub beyond : drop (s + 3 * tree_max) v ≡ drop (s + 3 * tree_max) w
 
@@ -65,7 +62,7 @@ pub record ValueReady (w q : List ℕ) (target_at into : Span) (r : Value) : Typ
   pub room : into.from + room_at q target_at (step_count q target_at) ≤ into.to
   pub inside : into.to ≤ length w
   pub small : length w ≤ work_min
-  pub behind : (f : ℕ) → r ≡ Value.At f → (into.from + room_at q target_at (step_count q target_at) ≤ f) × (f ≤ length w)
+  pub behind : (f : ℕ) → r ≡ At (Some f) → (into.from + room_at q target_at (step_count q target_at) ≤ f) × (f ≤ length w)
 
 -- whatever path stands there and whatever was written in u to give w, its place is written
 abbrev pub PlacesValue : (w v q : List ℕ) (target_at into : Span) → Value → Out → Type 0

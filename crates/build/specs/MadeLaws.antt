@@ -1,25 +1,22 @@
 -- Laws of building: a part that was written and added, and a value that was placed.
 use Rattle.std.proofs.Math.Path.{◌≡◌, refl, subst}
 use Rattle.std.proofs.Common.{sym, ap, ◌∙◌, arith}
-use Rattle.std.specs.Prelude.{List, [], ◌∷◌, ℕ, ◌+◌, ◌*◌, ◌≤◌, ◌<◌, take, drop}
+use Rattle.std.specs.Prelude.{List, [], ◌∷◌, ℕ, ◌+◌, ◌*◌, ◌≤◌, ◌<◌, take, drop, Some, None, Err, Ok as At}
 use Rattle.std.proofs.Math.Option.{Option}
 use Rattle.std.proofs.Math.ListN.{length}
 use Rattle.std.proofs.lemmas.Bool.{lt-leb}
-use Rattle.areas.specs.declared.area.Out.{Out}
-use Rattle.areas.specs.declared.area.Out.TheVariants.{At, TooLarge}
 use Rattle.areas.specs.declared.span.Span.{Span}
 use Rattle.spec_trees.specs.Limits.{tree_max, work_min}
-use Rattle.spec_trees.specs.Tree.{Tree, bare_void}
+use Rattle.spec_trees.specs.Tree.{Tree, bare_void, trees}
 use Rattle.spec_trees.specs.Size.{size, root_size, fits}
 use Rattle.spec_trees.specs.SizeLaws.{length_tree}
 use Rattle.spec_trees.specs.Bytes.{tree_bytes}
 use Rattle.spec_trees.specs.Within.{Ok}
-use Rattle.areas.specs.Area.{Is, span, Wrote}
+use Rattle.areas.specs.Area.{Is, span, Wrote, too_large, Out}
 use Rattle.areas.specs.AreaLaws.{take_less, drop_more, is_keep, wrote_keep, written}
 use Rattle.spec_trees.specs.OptionLaws.{true_T, T_and}
 use Rattle.format.specs.Stand.{trees_bytes, Behind}
 use Rattle.format.specs.HeadedLaws.{headed_large}
-use Rattle.spec_trees.specs.Tree.{trees}
 use Rattle.spec_queries.specs.Rules.{OkP⁺}
 use Rattle.queries.specs.Places.{path_bytes, OkAt}
 use Rattle.queries.specs.Steps.{step_count}
@@ -28,7 +25,7 @@ use Rattle.spec_stages.specs.Merge.{merge, build}
 use Rattle.spec_stages.proofs.KeepLaws.{merge_ok, fits_allowed}
 use Rattle.build.specs.Build.{Standing, Addable, Added}
 use Rattle.build.specs.BuildLaws.{added_next, added_large, standing_keep, standing_written}
-use Rattle.data.specs.declared.value.Value.{Value}
+use Rattle.data.specs.Value.{Value}
 use Rattle.place.specs.Writers.{Along}
 use Rattle.place.specs.Place.{Placed, place_bytes, place_room, room_at}
 use Rattle.place.specs.PlaceLaws.{room_all, room_small, length_place, placed_tree, place_bytes_lem}
@@ -46,7 +43,7 @@ begun {w} {u} {s} {r} h =
   where
     go : (o : Out) → r ≡ o → length (tree_bytes bare_void) ≡ 6 → r ≡ At (s + 6)
     go (At e) z l = z ∙ ap At ((h.fits e z).ends ∙ ap (λ n. s + n) l)
-    go TooLarge z l = absurd (omega (arith, (h.large z).over))
+    go (Err _) z l = absurd (omega (arith, (h.large z).over))
 
 -- ---- a part
 module _ {w : List ℕ} {s se : ℕ} {r : Out} (h : Adding w (span s se) r) where
@@ -77,7 +74,7 @@ module _ {w : List ℕ} {s se : ℕ} {r : Out} (h : Adding w (span s se) r) wher
       }
 
   -- it is too large
-  pub adds_none : r ≡ TooLarge → Adds w w (span s se) r TooLarge
+  pub adds_none : r ≡ Err too_large → Adds w w (span s se) r (Err too_large)
   unfolding fits
   adds_none z u a b l oa ob ha hb =
       let g = hb.large z in
@@ -93,30 +90,30 @@ module _ {w : List ℕ} {s se : ℕ} {r : Out} (h : Adding w (span s se) r) wher
 
 -- ---- a value that is placed
 module _ {w q : List ℕ} {p : Span} {d stop : ℕ} {r : Value} (h : ValueReady w q p (span d stop) r) where
-  pub placing_behind : {f : ℕ} → r ≡ Value.At f → Behind w (d + room_at q p (step_count q p)) (At f)
+  pub placing_behind : {f : ℕ} → r ≡ At (Some f) → Behind w (d + room_at q p (step_count q p)) (At f)
   placing_behind {f} z g k = let y : f ≡ g = cc in omega (arith, h.behind f z)
 
-  pub places_none : {x : List ℕ} {o : Out} → r ≡ Value.Absent → Wrote w x d stop (tree_bytes bare_void) o → PlacesValue w x q p (span d stop) r o
+  pub places_none : {x : List ℕ} {o : Out} → r ≡ At None → Wrote w x d stop (tree_bytes bare_void) o → PlacesValue w x q p (span d stop) r o
   unfolding placed
   places_none {x} {o} z k u path y l hp n g =
       let a = g.absent z in
       subst (λ y2. Wrote u x d stop (tree_bytes (placed path y2)) o) (sym a.0) (subst (λ u2. Wrote u2 x d stop (tree_bytes bare_void) o) a.1 k)
 
-  pub places_at : {x : List ℕ} {f : ℕ} {o : Out} → r ≡ Value.At f → Placed w x q p d (At f) o → PlacesValue w x q p (span d stop) r o
+  pub places_at : {x : List ℕ} {f : ℕ} {o : Out} → r ≡ At (Some f) → Placed w x q p d (At f) o → PlacesValue w x q p (span d stop) r o
   unfolding placed
   places_at {x} {f} {o} z k u path y l hp n g =
       let a = g.fits f z in
       let b : d + place_room path ≤ length u = omega (arith, h.room, h.inside, room_all path hp) in
       subst (λ y2. Wrote u x d stop (tree_bytes (placed path y2)) o) (sym a.same) (placed_tree path a.array n k hp b a.wrote)
 
-  pub places_large : r ≡ Value.TooLarge → PlacesValue w w q p (span d stop) r TooLarge
+  pub places_large : r ≡ Err too_large → PlacesValue w w q p (span d stop) r (Err too_large)
   unfolding placed
   places_large z u path y l hp n g =
       let a = g.large z in
       let b : d + place_room path ≤ length u = omega (arith, h.room, h.inside, room_all path hp) in
       let k = headed_large (place_bytes path) (place_room path) {w = w} {d = d} (length_place path) refl in
-      subst (λ y2. Wrote u w d stop (tree_bytes (placed path y2)) TooLarge) (sym a.same)
-      (subst (λ l2. Wrote u w d stop l2 TooLarge) (sym (place_bytes_lem path a.array n)) (k.wrote u stop (trees_bytes (trees a.array)) b a.wrote))
+      subst (λ y2. Wrote u w d stop (tree_bytes (placed path y2)) (Err too_large)) (sym a.same)
+      (subst (λ l2. Wrote u w d stop l2 (Err too_large)) (sym (place_bytes_lem path a.array n)) (k.wrote u stop (trees_bytes (trees a.array)) b a.wrote))
 
 -- ---- a path that is placed along
 pub target_along : {q : List ℕ} {p : Span} → OkAt OkP⁺ path_bytes q p → Along q p
@@ -150,7 +147,7 @@ module _ {w w2 : List ℕ} {s : ℕ} {x y : Tree} {o : Out} (h : AddedAt w w2 s 
       subst (λ z. Made w u s z r) (sym (added_next h ts q)) (made_after h.below (h.beyond (s + 3 * tree_max) (omega arith)) k)
 
   -- a part was too large
-  pub made_stop : o ≡ TooLarge → Made w w2 s (build x (y ∷ ts)) TooLarge
+  pub made_stop : o ≡ Err too_large → Made w w2 s (build x (y ∷ ts)) (Err too_large)
   made_stop q = record {
     tree_is = λ e z. let y : ◌≡◌ {A = ℕ} 0 1 = cc in absurd (omega arith);
     large = λ z. added_large h ts q;
@@ -164,7 +161,7 @@ made_one {w} {u} {s} {x} {y} {o} h = go o refl
   where
     go : (r : Out) → o ≡ r → Made w u s (build x (y ∷ [])) o
     go (At e) q = subst (λ r. Made w u s (build x (y ∷ [])) r) (sym q) (made_next h [] q (made_done (merge x y) (h.merge_is e q)))
-    go TooLarge q = subst (λ r. Made w u s (build x (y ∷ [])) r) (sym q) (made_stop h [] q)
+    go (Err _) q = subst (λ r. Made w u s (build x (y ∷ [])) r) (sym q) (made_stop h [] q)
 
 -- the tree so far, with the part that was added
 module _ {w u : List ℕ} {s e : ℕ} {x y : Tree} {o : Out} (h : AddedAt w u s x y o) (ox : Ok x) (oy : Ok y) (q : o ≡ At e) where

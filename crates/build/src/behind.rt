@@ -8,7 +8,7 @@ ghost use Rattle.build.specs.Build.{DepthSaid, Addable, Added};
 ghost use Rattle.build.specs.Behind.{LastIs, GoesBehind};
 ghost use Rattle.std.specs.Prelude.{true};
 
-use areas::area::{Out, field_end, move_down, put_head};
+use areas::area::{TooLarge, field_end, move_down, put_head};
 use areas::span::Span;
 use format::depth::within_depth;
 use format::labels::label_at;
@@ -55,17 +55,17 @@ pub fn goes_behind(area: &[u8], built: Span, part: Span) -> bool
 
 /// Puts the labels of the part, which goes behind the tree, behind the tree's, and answers where the merge ends. It is as
 /// deep as the deeper of the two, and the part is not too deep.
-pub fn append_part(work: &mut [u8], built: Span, part: Span) -> Out
+pub fn append_part(work: &mut [u8], built: Span, part: Span) -> Result<usize, TooLarge>
     requires { Addable work.old built part × DepthSaid work.old part true × GoesBehind work.old built part true }
     ensures { Added work.old work.new built part result }
 {
     let l = field_end(work, part.from + 3);
     let e = built.to + (part.to - l);
     if Limits::TREE < e - built.from {
-        return Out::TooLarge;
+        return Err(TooLarge);
     }
     if !within_depth(work, built, Limits::DEPTH) {
-        return Out::TooLarge;
+        return Err(TooLarge);
     }
     let labels = Span {
         from: l,
@@ -73,5 +73,5 @@ pub fn append_part(work: &mut [u8], built: Span, part: Span) -> Out
     };
     move_down(work, labels, built.to);
     put_head(work, built.from, 2, e);
-    Out::At(e)
+    Ok(e)
 }

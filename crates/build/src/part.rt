@@ -8,43 +8,50 @@ ghost use Rattle.areas.specs.Area.{Wrote};
 ghost use Rattle.build.specs.Made.{Adding, Adds, ValueReady, PlacesValue};
 
 use crate::build::add_part;
-use areas::area::Out;
+use areas::area::TooLarge;
 use areas::span::Span;
-use data::value::Value;
 use format::limits::Limits;
 use place::place::{place_heads, put_void};
 
 /// Writes the bare void tree, with which a build begins, and answers where it ends.
 pub fn begin(work: &mut [u8], at: usize) -> usize
     requires { at + tree_max ≤ length work.old }
-    ensures { Wrote work.old work.new at (at + tree_max) (tree_bytes bare_void) (Out.At result) }
+    ensures { Wrote work.old work.new at (at + tree_max) (tree_bytes bare_void) (Ok result) }
 {
     let stop = at + Limits::TREE;
-    put_void(work, Span { from: at, to: stop });
+    let _ = put_void(work, Span { from: at, to: stop });
     at + 6
 }
 
 /// Adds the part that another writer wrote behind the tree's room to the tree.
-pub fn add_written(work: &mut [u8], built: Span, written: Out) -> Out
+pub fn add_written(
+    work: &mut [u8],
+    built: Span,
+    written: Result<usize, TooLarge>,
+) -> Result<usize, TooLarge>
     requires { Adding work.old built written }
     ensures { Adds work.old work.new built written result }
 {
-    let Out::At(e) = written else {
-        return Out::TooLarge;
-    };
+    let e = written?;
     let d = built.from + Limits::TREE;
     add_part(work, built, Span { from: d, to: e })
 }
 
 /// Places along the path a value that another writer wrote behind the room for the heads. Absent gives the bare void
 /// tree.
-pub fn place_value(work: &mut [u8], query: &[u8], target: Span, room: Span, written: Value) -> Out
+pub fn place_value(
+    work: &mut [u8],
+    query: &[u8],
+    target: Span,
+    room: Span,
+    written: Result<Option<usize>, TooLarge>,
+) -> Result<usize, TooLarge>
     requires { ValueReady work.old query.now target room written }
     ensures { PlacesValue work.old work.new query.now target room written result }
 {
-    match written {
-        Value::Absent => put_void(work, room),
-        Value::At(f) => place_heads(work, query, target, room.from, Out::At(f)),
-        Value::TooLarge => Out::TooLarge,
+    let value = written?;
+    match value {
+        Some(end) => place_heads(work, query, target, room.from, Ok(end)),
+        None => put_void(work, room),
     }
 }

@@ -6,3 +6,4 @@ pub mod comparing;
 pub mod position_area;
 pub mod report;
 pub mod trial;
+pub mod verdict;

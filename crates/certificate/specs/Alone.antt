@@ -10,9 +10,8 @@ use Rattle.spec_queries.specs.Rules.{OkQ}
 use Rattle.spec_stages.specs.Stages.{halted, entering, performed, after}
 use Rattle.spec_trees.specs.Options.{maybe}
 use Rattle.spec_stages.specs.Positions.{result_positions}
-use Rattle.spec_run.specs.declared.answer.Answer.{Answer}
 use Rattle.spec_run.specs.Run.{final, positions_after}
-use Rattle.spec_run.specs.Answer.{AnswersAs}
+use Rattle.spec_run.specs.Answer.{AnswersAs, Answer}
 
 -- For a stage s that a query may have, and arrays ts and us within the limits, whose byte forms are lent with a work and
 -- a position area that are long enough: the answer is the array that the definition of the stage gives of ts, with us

@@ -3,9 +3,8 @@ use Rattle.std.specs.Prelude.{◌≡◌, refl, List, [], ◌∷◌, ℕ}
 use Rattle.std.proofs.Common.{ap, ◌∙◌}
 use Rattle.spec_trees.specs.Bytes.{array_bytes}
 use Rattle.spec_queries.specs.Bytes.{query_bytes}
-use Rattle.spec_run.specs.declared.answer.Answer.{Answer}
 use Rattle.spec_run.specs.Run.{call, outcome_of, plain_run, plain_positions}
-use Rattle.spec_run.specs.Answer.{numbered, lengthened, Answered}
+use Rattle.spec_run.specs.Answer.{numbered, lengthened, Answered, Answer}
 use Rattle.spec_run.proofs.Conditions.{run_alone}
 use Rattle.certificate.specs.Alone.{AloneGives}
 

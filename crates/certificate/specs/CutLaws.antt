@@ -6,10 +6,9 @@ use Rattle.spec_trees.specs.Limits.{work_min}
 use Rattle.spec_trees.specs.Within.{AllBytes}
 use Rattle.spec_run.specs.Run.{Call, call, Verdict, gives, refused, verdict, zeros, work_after, outcome_of, plain_run, result_bytes}
 use Rattle.spec_run.specs.Refusal.{keeps_work}
-use Rattle.spec_run.specs.declared.answer.Answer.{Answer}
 use Rattle.spec_run.proofs.RunLaws.{run_short, result_length}
 use Rattle.spec_run.proofs.CutLaws.{cut}
-use Rattle.spec_run.specs.Answer.{numbered, lengthened, Answered}
+use Rattle.spec_run.specs.Answer.{numbered, lengthened, Answered, Answer}
 use Rattle.certificate.specs.declared.cut.Runs.{Runs}
 use Rattle.certificate.specs.Cut.{work, entries, MakesRuns, CutSame}
 

@@ -1,5 +1,5 @@
 -- What the tests of the regrouping call say: what it has read, or the refusal.
-use Rattle.std.specs.Prelude.{◌≡◌, List, ℕ, ◌≤◌}
+use Rattle.std.specs.Prelude.{◌≡◌, List, ℕ, ◌≤◌, Ok, Err, Result}
 use Rattle.spec_trees.specs.Limits.{work_min}
 use Rattle.spec_trees.specs.Tree.{Tree}
 use Rattle.spec_trees.specs.Readers.{accepted}
@@ -13,7 +13,6 @@ use Rattle.spec_run.specs.declared.answer.Refusal.{Refusal}
 use Rattle.spec_run.specs.declared.answer.Refusal.TheVariants.{QueryMalformed, InputLong, InputMalformed}
 use Rattle.spec_run.specs.Run.{Verdict, reading, asking}
 use Rattle.spec_run.specs.Regroup.{regroup_verdict_of}
-use Rattle.checks.specs.declared.check.RegroupCheck.{RegroupCheck}
 use Rattle.checks.specs.Check.{Early}
 
 -- the query is read as a tray group alone whose pairs stand there, and the arrays as these trees
@@ -34,12 +33,12 @@ abbrev pub tested : (a b : List ℕ) → List Stage → (Stage → List Tree →
 tested a b ss f = asking (regrouping ss) QueryMalformed (both_read a b f)
 
 -- behind that of the query
-pub record TraysCheck (q a b : List ℕ) (r : RegroupCheck) : Type 0 where
-  pub passed : (at : GroupAt) → r ≡ RegroupCheck.Passed at → Read q a b at
-  pub refuses : (t : Refusal) → r ≡ RegroupCheck.Refused t → (ss : List Stage) → read_query q ≡ accepted ss
+pub record TraysCheck (q a b : List ℕ) (r : Result GroupAt Refusal) : Type 0 where
+  pub passed : (at : GroupAt) → r ≡ Ok at → Read q a b at
+  pub refuses : (t : Refusal) → r ≡ Err t → (ss : List Stage) → read_query q ≡ accepted ss
       → (f : Stage → List Tree → List Tree → Verdict) → Early (tested a b ss f) t
 
 -- all of them; work is the length of the work area
-pub record RegroupChecked (q a b : List ℕ) (work : ℕ) (r : RegroupCheck) : Type 0 where
-  pub passed : (at : GroupAt) → r ≡ RegroupCheck.Passed at → (work_min ≤ work) × Read q a b at
-  pub refuses : (t : Refusal) → r ≡ RegroupCheck.Refused t → (room : ℕ) → Early (regroup_verdict_of q a b work room) t
+pub record RegroupChecked (q a b : List ℕ) (work : ℕ) (r : Result GroupAt Refusal) : Type 0 where
+  pub passed : (at : GroupAt) → r ≡ Ok at → (work_min ≤ work) × Read q a b at
+  pub refuses : (t : Refusal) → r ≡ Err t → (room : ℕ) → Early (regroup_verdict_of q a b work room) t

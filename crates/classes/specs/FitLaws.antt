@@ -27,7 +27,7 @@ use Rattle.arrange.specs.Arrange.{arranged, Arranged}
 use Rattle.totals.specs.declared.exact.Total.{Total}
 use Rattle.totals.specs.Exact as exact
 use Rattle.totals.specs.Sum.{TotalOver}
-use Rattle.classes.specs.declared.read.Reached.{Reached}
+use Rattle.key_index.specs.declared.front.Reached.{Reached}
 use Rattle.classes.specs.Read.{Stems, ClassesAt, reached, Unread, EndReady, EndIs}
 use Rattle.classes.specs.ReadLaws.{first_allowed, others_allowed, unread_all, ClassParts, class_none, class_parts}
 use Rattle.classes.specs.Fit.{source_fits, SourceFits, PairFits, PairsFit}

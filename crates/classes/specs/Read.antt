@@ -12,7 +12,7 @@ use Rattle.map.specs.Map.{trees_max}
 use Rattle.positions.specs.Bearing.{Position}
 use Rattle.key_index.specs.Index.{numbers_at}
 use Rattle.arrange.specs.Arrange.{headed, arranged, trees_of, number_bytes, Arranged}
-use Rattle.classes.specs.declared.read.Reached.{Reached}
+use Rattle.key_index.specs.declared.front.Reached.{Reached}
 
 -- each class has the position of its first tree, which p gives
 abbrev pub Stems : (Tree → ℕ) → List Class → Type 0

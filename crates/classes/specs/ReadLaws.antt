@@ -26,7 +26,7 @@ use Rattle.key_index.specs.Index.{numbers_at, size_of}
 use Rattle.arrange.specs.Arrange.{headed, arranged, trees_of, number_bytes, Arranged}
 use Rattle.key_index.specs.StandingLaws.{tree_end}
 use Rattle.arrange.specs.FrontLaws.{arranged_trees}
-use Rattle.classes.specs.declared.read.Reached.{Reached}
+use Rattle.key_index.specs.declared.front.Reached.{Reached}
 use Rattle.classes.specs.Read.{Stems, reached, Unread, EndReady, EndIs}
 
 -- ---- the trees of the first class, and those of the others

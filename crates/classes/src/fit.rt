@@ -4,9 +4,10 @@ ghost use Rattle.queries.specs.Places.{route_bytes, pair_bytes, pairs_bytes, Hol
 ghost use Rattle.classes.specs.Read.{ClassesAt};
 ghost use Rattle.classes.specs.Fit.{SourceFits, PairFits, PairsFit};
 
-use crate::read::{Reached, class_end};
+use crate::read::class_end;
 use areas::area::field_end;
 use areas::span::Span;
+use key_index::front::Reached;
 use queries::item::{is_total, pair_at};
 use totals::exact::fits_signed;
 use totals::over::total_over;

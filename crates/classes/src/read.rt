@@ -4,14 +4,8 @@ ghost use Rattle.classes.specs.Read.{EndReady, EndIs};
 
 use areas::area::field_end;
 use areas::number::two_at;
+use key_index::front::Reached;
 use key_index::index::Index;
-
-/// How far the array is read: where the next tree stands, and how many stand before it.
-#[derive(Clone, Copy)]
-pub struct Reached {
-    pub to: usize,
-    pub count: usize,
-}
 
 /// Where the class ends whose first tree is the last that was read: where the next one begins, or at `len`.
 pub fn class_end(work: &[u8], read: Reached, len: usize) -> Reached

@@ -22,15 +22,14 @@ pub fn compare(one: &[u8], other: &[u8]) -> Comparison
     if one.len() != other.len() {
         return Comparison { same: false, steps };
     }
-    let mut i = one.len();
-    while i % 8 != 0 {
-        i -= 1;
+    let whole = one.len() / 8 * 8;
+    for i in (whole..one.len()).rev() {
         steps += 1;
         if one[i] != other[i] {
             return Comparison { same: false, steps };
         }
     }
-    compare_words(one, other, i, steps)
+    compare_words(one, other, whole, steps)
 }
 
 /// Whether two areas hold the same bytes.

@@ -35,11 +35,10 @@ pub fn compare_words(one: &[u8], other: &[u8], end: usize, taken: usize) -> Comp
     ensures { IsComparison one.now other.now result }
 {
     let mut steps = taken;
-    let mut i = end;
-    while 8 <= i {
-        i -= 8;
+    for i in (0..end / 8).rev() {
+        let at = 8 * i;
         steps += 1;
-        if word(one, i) != word(other, i) {
+        if word(one, at) != word(other, at) {
             return Comparison { same: false, steps };
         }
     }

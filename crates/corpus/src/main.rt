@@ -11,9 +11,9 @@
 
 #![tactic(auto)]
 
+mod case;
 mod count;
 mod record;
-mod turn;
 
 use crate::count::count;
 use std::io;

@@ -1,60 +1,83 @@
 //! The parts of a record, read from standard input.
-ghost use Rattle.std.specs.Prelude.{◌≤◌};
-
-use areas::number::wide;
 use reading::full::read_full;
 use std::io;
 use std::io::Read;
 
-/// What came: a number; nothing, as the input ended before; or less than it should be, or more than there is room for.
-#[derive(Clone, Copy)]
-pub enum Part {
-    Whole(usize),
-    Missing,
-    Cut,
+/// Why a record gives no case.
+#[derive(Debug, Drop)]
+pub enum RecordError {
+    /// It is cut short, has a length past the buffer, or is no record.
+    Malformed,
+    /// It cannot be read.
+    Io(io::Error),
 }
 
-/// Reads a number of up to three bytes, the high one first.
-pub fn read_number<R: Read>(input: &mut R, width: usize) -> io::Result<Part>
-    requires { width ≤ 3 }
-{
-    let mut b = [0u8; 3];
-    let got = read_full(input, &mut b[3 - width..])?;
-    if got == 0 {
-        return Ok(Part::Missing);
+impl From<io::Error> for RecordError {
+    fn from(error: io::Error) -> RecordError {
+        RecordError::Io(error)
     }
-    if got < width {
-        return Ok(Part::Cut);
-    }
-    Ok(Part::Whole((wide(b[0]) * 256 + wide(b[1])) * 256 + wide(b[2])))
 }
 
-/// Reads `count` bytes to a place of a buffer: where they end.
-fn read_bytes<R: Read>(
+/// Reads so many bytes; none if the input ended before.
+fn read_if_any<const N: usize, R: Read>(input: &mut R) -> Result<Option<[u8; N]>, RecordError> {
+    let mut bytes = [0u8; N];
+    let count = read_full(input, &mut bytes)?;
+    if count == 0 {
+        return Ok(None);
+    }
+    if count < N {
+        return Err(RecordError::Malformed);
+    }
+    Ok(Some(bytes))
+}
+
+/// Reads so many bytes.
+fn read_array<const N: usize, R: Read>(input: &mut R) -> Result<[u8; N], RecordError> {
+    read_if_any(input)?.ok_or(RecordError::Malformed)
+}
+
+/// Reads a number of one byte.
+pub fn read_one<R: Read>(input: &mut R) -> Result<u64, RecordError> {
+    let [byte] = read_array::<1, _>(input)?;
+    Ok(u64::from(byte))
+}
+
+/// Reads a number of two bytes, the high one first.
+pub fn read_two<R: Read>(input: &mut R) -> Result<usize, RecordError> {
+    Ok(usize::from(u16::from_be_bytes(read_array(input)?)))
+}
+
+/// Reads the same; none if the input ended before.
+pub fn read_two_if_any<R: Read>(input: &mut R) -> Result<Option<usize>, RecordError> {
+    Ok(read_if_any(input)?.map(|bytes| usize::from(u16::from_be_bytes(bytes))))
+}
+
+/// Reads a number of three bytes, the high one first.
+pub fn read_three<R: Read>(input: &mut R) -> Result<usize, RecordError> {
+    let [high, middle, low] = read_array::<3, _>(input)?;
+    Ok(u32::from_be_bytes([0, high, middle, low]) as usize)
+}
+
+/// Reads so many bytes to the beginning of a buffer: they come back with what is left of it.
+pub fn read_bytes<'b, R: Read>(
     input: &mut R,
     count: usize,
-    buffer: &mut [u8],
-    from: usize,
-) -> io::Result<Part> {
-    if buffer.len() < from {
-        return Ok(Part::Cut);
+    buffer: &'b mut [u8],
+) -> Result<(&'b [u8], &'b mut [u8]), RecordError> {
+    let (bytes, free) = buffer
+        .split_at_mut_checked(count)
+        .ok_or(RecordError::Malformed)?;
+    if read_full(input, bytes)? < count {
+        return Err(RecordError::Malformed);
     }
-    if buffer.len() - from < count {
-        return Ok(Part::Cut);
-    }
-    let to = from + count;
-    let got = read_full(input, &mut buffer[from..to])?;
-    if got < count {
-        return Ok(Part::Cut);
-    }
-    Ok(Part::Whole(to))
+    Ok((bytes, free))
 }
 
-/// Reads a length in two bytes, and so many bytes to a place of a buffer: where they end.
-pub fn read_part<R: Read>(input: &mut R, buffer: &mut [u8], from: usize) -> io::Result<Part> {
-    match read_number(input, 2)? {
-        Part::Whole(n) => read_bytes(input, n, buffer, from),
-        Part::Missing => Ok(Part::Missing),
-        Part::Cut => Ok(Part::Cut),
-    }
+/// Reads a length in two bytes, and so many bytes to the beginning of a buffer.
+pub fn read_part<'b, R: Read>(
+    input: &mut R,
+    buffer: &'b mut [u8],
+) -> Result<(&'b [u8], &'b mut [u8]), RecordError> {
+    let count = read_two(input)?;
+    read_bytes(input, count, buffer)
 }

@@ -3,12 +3,10 @@ use Rattle.std.specs.Prelude.{◌≡◌, List, Bool, true, false, ◌&&◌, ◌|
 use Rattle.std.proofs.Math.Path.{sym, ap, subst}
 use Rattle.std.proofs.Common.{◌∙◌, arith}
 use Rattle.std.proofs.Math.Bool.{not}
-use Rattle.spec_trees.specs.Limits.{depth_max}
-use Rattle.spec_trees.specs.Tree.{Tree, trees}
+use Rattle.spec_trees.specs.Tree.{trees}
 use Rattle.spec_trees.specs.Bytes.{tree_bytes}
 use Rattle.areas.specs.declared.span.Span.{Span}
 use Rattle.format.specs.Stand.{trees_bytes}
-use Rattle.spec_trees.specs.Within.{Allowed}
 use Rattle.spec_queries.specs.Query.{Criterion, always, exists, equal, same, negated, both, either}
 use Rattle.spec_queries.specs.Rules.{nest_c, OkC, NestedC}
 use Rattle.queries.specs.Places.{criterion_bytes, HoldsAt, TwoParts, ReadsCriterion}

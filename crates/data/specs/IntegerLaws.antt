@@ -1,12 +1,11 @@
 -- Laws of integers as 64 bits, divided to nearest by their magnitude.
-use Rattle.std.specs.Prelude.{◌≡◌, refl, List, negsuc}
+use Rattle.std.specs.Prelude.{◌≡◌, refl, List, negsuc, Ok}
 use Rattle.std.proofs.Math.Path.{sym, ap}
 use Rattle.std.proofs.Common.{subst, ◌∙◌, add-mul, one-mul, mul_left_comm, le-mul_of_pos_right, div-mul-le_self, div-lt_iff_lt-mul}
 use Prim.Native.Nat.{ℕ, zero, suc, ◌+◌, ◌*◌, ◌-◌, ◌/◌, ◌^◌, ◌≤◌, ◌<◌}
 use Rattle.std.proofs.Math.Nat.{lt-div-mul-add, div-eq_of_lt-le}
 use native.Mathlib.Omega.{arith}
 use Rattle.std.proofs.Math.IntN.{pos, neg_ℤ}
-use Rattle.areas.specs.declared.area.Out.{Out}
 use Rattle.spec_trees.specs.Bytes.{big, pattern}
 use Rattle.spec_trees.specs.Decode.{signed}
 use Rattle.areas.specs.Area.{Wrote}
@@ -76,9 +75,9 @@ module _ (x n : ℕ) (h : 0 < n) where
 
 -- the integer that was read, divided and stored
 pub reduces : (w v : List ℕ) (at n : ℕ) {x y : ℕ} → x ≡ word_at w at → y < 2 ^ 64 → signed y ≡ reduced_int n (signed x)
-    → Wrote w v at (at + 8) (big 8 y) (Out.At (at + 8)) → Reduces w v at n
+    → Wrote w v at (at + 8) (big 8 y) (Ok (at + 8)) → Reduces w v at n
 reduces w v at n {x} {y} g b q k z m h =
     let e : x ≡ pattern z = g ∙ word_is (pattern z) (omega (arith, pattern_lt z m)) h in
     let s : signed y ≡ reduced_int n z = q ∙ ap (λ i. reduced_int n (signed i)) e ∙ ap (reduced_int n) (signed_back z m) in
     let p : y ≡ pattern (reduced_int n z) = sym (signed_form y b).0 ∙ ap pattern s in
-    subst (λ i. Wrote w v at (at + 8) (big 8 i) (Out.At (at + 8))) p k
+    subst (λ i. Wrote w v at (at + 8) (big 8 i) (Ok (at + 8))) p k

@@ -3,10 +3,9 @@
 use Rattle.std.specs.Prelude.{◌≡◌, List, [], ◌∷◌, map, Bool, cond, ℕ, ◌≤◌, length, take, eqb}
 use Rattle.std.proofs.Math.Option
 use Rattle.std.proofs.Math.Option.{some}
-use Rattle.areas.specs.declared.area.Out.{Out}
 use Rattle.spec_trees.specs.Tree.{Tree, node, boolean, bare, root}
 use Rattle.spec_trees.specs.Bytes.{tree_bytes}
-use Rattle.areas.specs.Area.{IsAt, Wrote}
+use Rattle.areas.specs.Area.{IsAt, Wrote, Out}
 use Rattle.areas.specs.declared.span.Span.{Span}
 use Rattle.spec_trees.specs.Lists.{All}
 use Rattle.spec_trees.specs.Limits.{depth_max, divisor_max, work_min}
@@ -14,12 +13,11 @@ use Rattle.spec_trees.specs.Within.{OkR, Allowed}
 use Rattle.spec_queries.specs.Query.{Criterion, Datas}
 use Rattle.spec_queries.specs.Rules.{OkDs, nest_ds}
 use Rattle.queries.specs.Places.{HoldsAt, OkAt, array_trees}
-use Rattle.data.specs.declared.value.Value.{Value}
+use Rattle.data.specs.Value.{Value, WroteFound, end_of, before}
 use Rattle.spec_stages.specs.Paths.{Given, join, joins}
 use Rattle.spec_stages.specs.Criteria.{holds}
 use Rattle.spec_stages.specs.Data.{reduced_tree, values}
 use Rattle.paths.specs.Walk.{given, Walk}
-use Rattle.data.specs.Value.{WroteFound, end_of, before}
 
 -- ---- a path, of which each tree is written as it is, for n = 0, or with its root divided by n
 

@@ -1,13 +1,12 @@
 -- Laws of writing data: what each kind gives, and the members of a list, one behind another.
-use Rattle.std.specs.Prelude.{◌≡◌, refl, List, [], ◌∷◌, map, Bool, true, false, cond, ℕ, ◌+◌, ◌-◌, ◌≤◌, length, take, drop}
+use Rattle.std.specs.Prelude.{◌≡◌, refl, List, [], ◌∷◌, map, Bool, true, false, cond, ℕ, ◌+◌, ◌-◌, ◌≤◌, length, take, drop, Err}
 use Rattle.std.proofs.Common.{sym, ◌∙◌, arith}
 use Rattle.std.proofs.Math.Path.{subst}
 use Rattle.std.proofs.Math.Option
 use Rattle.std.proofs.Math.Option.{none, some}
-use Rattle.areas.specs.declared.area.Out.{Out}
 use Rattle.spec_trees.specs.Tree.{Tree, node, boolean, bare, list, root}
 use Rattle.spec_trees.specs.Bytes.{field_bytes, bytes, root_f, tree_f, tree_bytes}
-use Rattle.areas.specs.Area.{Wrote, field_end, IsAt, span}
+use Rattle.areas.specs.Area.{Wrote, field_end, IsAt, span, too_large, Out}
 use Rattle.areas.specs.declared.span.Span.{Span}
 use Rattle.areas.specs.AreaLaws.{is_keep, is_part_lem}
 use Rattle.spec_trees.specs.Limits.{depth_max, divisor_max}
@@ -20,7 +19,7 @@ use Rattle.spec_queries.specs.Rules.{nest_d, NestedC, NestedD}
 use Rattle.queries.specs.Places.{route_bytes, criterion_bytes, data_bytes, datas_bytes, HoldsOk, ReadsData}
 use Rattle.queries.specs.PartLaws.{datas_parts, datas_none, datas_places}
 use Rattle.queries.specs.PlaceLaws.{reduced_range}
-use Rattle.data.specs.declared.value.Value.{Value}
+use Rattle.data.specs.Value.{Value, WroteFound, value_of, is_large, end_of, found_of, answer_of, before}
 use Rattle.spec_stages.specs.Paths.{Given, join, joins, over, apply}
 use Rattle.spec_stages.specs.Criteria.{holds}
 use Rattle.spec_stages.specs.Data.{value, values, reduced_tree}
@@ -29,9 +28,8 @@ use Rattle.paths.specs.WalkLaws.{walk_at}
 use Rattle.paths.specs.ComparedLaws.{one_bytes}
 use Rattle.paths.specs.SameLaws.{apply_allowed}
 use Rattle.criteria.specs.Meets.{Evaluable, Meets}
-use Rattle.data.specs.Value.{WroteFound, value_of, is_large, end_of, found_of, answer_of, before}
 use Rattle.data.specs.ValueLaws.{value_array, value_keep, value_end, value_next, value_stop, value_done}
-use Rattle.data.specs.Write.{part, Rooted, WalkReady, WroteParts, DataReady, Gives, NestedDs, WroteLiteral, tested, listed_from}
+use Rattle.data.specs.Write.{Rooted, WalkReady, WroteParts, DataReady, Gives, NestedDs, WroteLiteral, tested, listed_from}
 use Rattle.data.specs.WritePathLaws.{parts_zero, parts_reduced}
 
 -- ---- a path, with roots divided or not
@@ -282,12 +280,12 @@ module _ (q : List ℕ) (p ce : ℕ) (w : List ℕ) (a b d stop left : ℕ) wher
           }
 
     module _ (s : Bool) {v : List ℕ} {r : Value} (k : Gives (NestedD left) data_bytes value q (span p m) w v (span a b) (span d stop) r) where
-      pub list_stop : is_large r ≡ true → Gives (NestedDs left) datas_bytes (listed_from s) q (span p ce) w v (span a b) (span d stop) Value.TooLarge
+      pub list_stop : is_large r ≡ true → Gives (NestedDs left) datas_bytes (listed_from s) q (span p ce) w v (span a b) (span d stop) (Err too_large)
       unfolding values joins
       list_stop l ds t n h i g =
           let c = datas_parts ds y z h in
           let n2 = first_nested left c.first c.rest (subst (NestedDs left) c.same n) in
-          subst (λ x. WroteFound w v d stop (join (before s) (joins (values x t))) Value.TooLarge) (sym c.same)
+          subst (λ x. WroteFound w v d stop (join (before s) (joins (values x t))) (Err too_large)) (sym c.same)
           (value_stop s r l (k c.first t n2.0 c.first_is i g) (joins (values c.rest t)))
 
       pub list_next : d ≤ length w → b ≤ d → is_large r ≡ false → {f : ℕ} {e : Bool} → f ≡ end_of r d → e ≡ found_of r s → (u : List ℕ) (o : Value)

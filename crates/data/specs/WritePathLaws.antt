@@ -1,18 +1,15 @@
 -- Laws of writing what a path gives: one tree, with its root divided or not; an array; tree by tree.
-use Rattle.std.specs.Prelude.{◌≡◌, List, [], ◌∷◌, ◌++◌, map, Bool, cond, ℕ, suc, ◌+◌, ◌-◌, ◌/◌, ◌%◌, ◌≤◌, ◌<◌, ℤ, take, drop, get_or, eqb}
+use Rattle.std.specs.Prelude.{◌≡◌, List, [], ◌∷◌, ◌++◌, map, Bool, cond, ℕ, suc, ◌+◌, ◌-◌, ◌/◌, ◌%◌, ◌≤◌, ◌<◌, ℤ, take, drop, get_or, eqb, Some, None, Err, Ok}
 use Rattle.std.proofs.Math.Path.{refl, sym, ap, subst}
 use Rattle.std.proofs.Common.{ap₂, ◌∙◌, append_assoc, arith, length-append, drop_of_length-le, take-add, eq-eqb, ne_eqb}
 use Rattle.std.proofs.Math.Bool.{true, false}
 use Rattle.std.proofs.Math.Option
 use Rattle.std.proofs.Math.Option.{none, some}
 use Rattle.std.proofs.Math.ListN.{length}
-use Rattle.areas.specs.declared.area.Out.{Out}
-use Rattle.format.specs.declared.labels.Found.{Found}
-use Rattle.format.specs.declared.labels.Found.TheVariants.{Part, Missing}
 use Rattle.spec_trees.specs.Tree.{void, boolean, integer, text, Tree, node, Trees, Labels, list, root}
 use Rattle.spec_trees.specs.Bytes.{field_bytes, bytes, big, pattern, root_f, tree_f, tree_bytes}
 use Rattle.spec_trees.specs.NumberLaws.{length_big}
-use Rattle.areas.specs.Area.{Is, Fitted, Wrote, field_end, span}
+use Rattle.areas.specs.Area.{Is, Fitted, Wrote, field_end, span, too_large, Out}
 use Rattle.areas.specs.declared.span.Span.{Span}
 use Rattle.areas.specs.AreaLaws.{fitted, failed, fitted_is, fitted_keep, wrote_keep, is_part_lem, is_right, is_keep, is_tag, is_copied, take_less, drop_more, is_left}
 use Rattle.spec_trees.specs.Lists.{All}
@@ -24,7 +21,7 @@ use Rattle.format.specs.Stand.{trees_bytes, labels_bytes, Holds, FoundIs}
 use Rattle.format.specs.StandLaws.{tree_parts}
 use Rattle.queries.specs.Steps.{step_count}
 use Rattle.queries.specs.StepLaws.{steps_are}
-use Rattle.data.specs.declared.value.Value.{Value}
+use Rattle.data.specs.Value.{Value, WroteFound, value_of, is_large, end_of, found_of, answer_of, before}
 use Rattle.spec_stages.specs.Paths.{Given, join, over, apply}
 use Rattle.spec_stages.proofs.PathLaws.{over_itself}
 use Rattle.spec_stages.specs.Data.{reduced_int, reduced_root, reduced_tree}
@@ -32,9 +29,9 @@ use Rattle.data.specs.Integer.{Reduces}
 use Rattle.paths.specs.Walk.{given, Tells, TellsOver, TellsJoined, Under}
 use Rattle.paths.specs.WalkLaws.{given_join, tells_end, tells_missing, tells_part, over_none, over_some, joined_end, joined_next, walk_first, walk_rest, walk_part, walk_places, part_places}
 use Rattle.paths.specs.ComparedLaws.{one_bytes}
-use Rattle.data.specs.Value.{WroteFound, value_of, is_large, end_of, found_of, answer_of, before}
 use Rattle.data.specs.ValueLaws.{value_absent, value_array, value_next, value_stop, value_done}
 use Rattle.data.specs.Write.{part, parts, Rooted, LeafReady, WalkReady, WroteLeaf, Kept, WroteParts}
+use Rattle.format.specs.Labels.{Found}
 
 -- ---- one tree: the same number of bytes, whatever its root
 
@@ -108,8 +105,8 @@ part_reduced n t z = ap (λ c. cond c t (reduced_tree n t)) (ne_eqb n 0 z)
 -- ---- the end of what was written
 
 pub wrote_kept : {w v : List ℕ} {d stop : ℕ} {xs : List ℕ} (r : Out) → d ≤ length w → d ≤ stop → Wrote w v d stop xs r → Kept w v (span d stop) (value_of r)
-wrote_kept (Out.At e) b s h = let f = h.fits e refl in record { below = wrote_keep h b; after = omega (arith, f.ends); within = f.room }
-wrote_kept Out.TooLarge b s h = record { below = wrote_keep h b; after = omega arith; within = s }
+wrote_kept (Ok e) b s h = let f = h.fits e refl in record { below = wrote_keep h b; after = omega (arith, f.ends); within = f.room }
+wrote_kept (Err _) b s h = record { below = wrote_keep h b; after = omega arith; within = s }
 
 pub kept_same : {w v : List ℕ} {d stop : ℕ} {r o : Out} → r ≡ o → Kept w v (span d stop) (value_of r) → Kept w v (span d stop) (value_of o)
 kept_same {w} {v} {d} {stop} z h = subst (λ o. Kept w v (span d stop) (value_of o)) z h
@@ -118,13 +115,13 @@ kept_same {w} {v} {d} {stop} z h = subst (λ o. Kept w v (span d stop) (value_of
 pub kept_more : {w u v : List ℕ} {d stop : ℕ} {r : Value} (m : ℕ) → d ≤ m → take m v ≡ take m u → Kept w u (span d stop) r → Kept w v (span d stop) r
 kept_more {w} {u} {v} {d} {stop} m b k h = record { below = take_less u v d m b k ∙ h.below; after = h.after; within = h.within }
 
-pub kept_none : (w : List ℕ) (d stop : ℕ) → d ≤ stop → Kept w w (span d stop) Value.Absent
+pub kept_none : (w : List ℕ) (d stop : ℕ) → d ≤ stop → Kept w w (span d stop) (Ok None)
 kept_none w d stop s = record { below = refl; after = omega arith; within = s }
 
-pub kept_here : (w : List ℕ) (d stop : ℕ) → d ≤ stop → Kept w w (span d stop) (Value.At d)
+pub kept_here : (w : List ℕ) (d stop : ℕ) → d ≤ stop → Kept w w (span d stop) (Ok (Some d))
 kept_here w d stop s = record { below = refl; after = omega arith; within = s }
 
-pub kept_large : {w v : List ℕ} {d stop : ℕ} → d ≤ stop → take d v ≡ take d w → Kept w v (span d stop) Value.TooLarge
+pub kept_large : {w v : List ℕ} {d stop : ℕ} → d ≤ stop → take d v ≡ take d w → Kept w v (span d stop) (Err too_large)
 kept_large s k = record { below = k; after = omega arith; within = s }
 
 kept_answer_is : {w v : List ℕ} {d stop : ℕ} (s : Bool) (e : ℕ) → d ≤ e → e ≤ stop → take d v ≡ take d w → Kept w v (span d stop) (answer_of s e)
@@ -136,17 +133,17 @@ kept_answer {w} {v} {d} {stop} s e z a b k = subst (Kept w v (span d stop)) (sym
 
 -- ---- a leaf
 module _ (w v : List ℕ) (a b d stop n : ℕ) {r : Out} (k : Wrote w v d stop (take (b - a) (drop a w)) r) where
-  pub leaf_large : r ≡ Out.TooLarge → WroteLeaf w v (span a b) (span d stop) n Out.TooLarge
+  pub leaf_large : r ≡ Err too_large → WroteLeaf w v (span a b) (span d stop) n (Err too_large)
   leaf_large z t h o = let f = (is_copied h k).large z in failed record { over = omega (arith, part_length n t); below = f.below; beyond = f.beyond }
 
-  module _ {e : ℕ} (z : r ≡ Out.At e) where
+  module _ {e : ℕ} (z : r ≡ Ok e) where
     copied : (t : Tree) → Is w a b (tree_bytes t) → Fitted w v d stop e (tree_bytes t) e
     copied t h = (is_copied h k).fits e z
 
-    leaf_same : (t : Tree) → Is w a b (tree_bytes t) → part n t ≡ t → Wrote w v d stop (tree_bytes (part n t)) (Out.At e)
-    leaf_same t h q = subst (λ u. Wrote w v d stop (tree_bytes u) (Out.At e)) (sym q) (fitted (copied t h))
+    leaf_same : (t : Tree) → Is w a b (tree_bytes t) → part n t ≡ t → Wrote w v d stop (tree_bytes (part n t)) (Ok e)
+    leaf_same t h q = subst (λ u. Wrote w v d stop (tree_bytes u) (Ok e)) (sym q) (fitted (copied t h))
 
-    pub leaf_plain : n ≡ 0 → WroteLeaf w v (span a b) (span d stop) n (Out.At e)
+    pub leaf_plain : n ≡ 0 → WroteLeaf w v (span a b) (span d stop) n (Ok e)
     leaf_plain q t h o = leaf_same t h (part_zero n t q)
 
     module _ (l : d ≤ length w) where
@@ -162,7 +159,7 @@ module _ (w v : List ℕ) (a b d stop n : ℕ) {r : Out} (k : Wrote w v d stop (
           let p = tree_parts h.value refl i in
           (omega (arith, p.after, p.within), i.inside)
 
-      pub leaf_other : (n ≡ 0 → ⊥) → (get_or v (d + 3) 0 ≡ 5 → ⊥) → WroteLeaf w v (span a b) (span d stop) n (Out.At e)
+      pub leaf_other : (n ≡ 0 → ⊥) → (get_or v (d + 3) 0 ≡ 5 → ⊥) → WroteLeaf w v (span a b) (span d stop) n (Ok e)
       leaf_other q c t h o = leaf_same t h (part_reduced n t q ∙ reduced_other n t (λ y. c (copied_tag t h ∙ y)))
 
       -- where the integer stands
@@ -187,7 +184,7 @@ module _ (w v : List ℕ) (a b d stop n : ℕ) {r : Out} (k : Wrote w v d stop (
           omega (arith, integer_room h.value c (copied_tag h.value h.value_is) i, i.inside)
 
       divided : {u : List ℕ} (t : Tree) → get_or v (d + 3) 0 ≡ 5 → get_or v (d + 3) 0 ≡ (root_f (root t)).0 → Is v d e (tree_bytes t) → Fitted w v d stop e (tree_bytes t) e
-          → OkR (root t) → Reduces v u (d + 6) n → Wrote w u d stop (tree_bytes (reduced_tree n t)) (Out.At e)
+          → OkR (root t) → Reduces v u (d + 6) n → Wrote w u d stop (tree_bytes (reduced_tree n t)) (Ok e)
       unfolding root_f reduced_tree reduced_root
       divided (node void ls) c y i f o g = absurd (omega arith)
       divided (node (boolean x) ls) c y i f o g = absurd (omega arith)
@@ -199,12 +196,12 @@ module _ (w v : List ℕ) (a b d stop n : ℕ) {r : Out} (k : Wrote w v d stop (
           let q : d + 6 + 8 ≡ d + 6 + length (big 8 (pattern x)) = ap (λ i. d + 6 + i) (sym (length_big 8 (pattern x))) in
           let m = over_written h (big 8 (pattern x)) (big 8 (pattern x2)) (labels_bytes ls) l s refl q
           (length_big 8 (pattern x2) ∙ sym (length_big 8 (pattern x))) j in
-          subst (λ l. Wrote w u d stop l (Out.At e)) (sym (integer_bytes x2 ls)) (fitted m)
+          subst (λ l. Wrote w u d stop l (Ok e)) (sym (integer_bytes x2 ls)) (fitted m)
       divided (node (text x) ls) c y i f o g = absurd (omega arith)
 
-      pub leaf_reduced : {u : List ℕ} → (n ≡ 0 → ⊥) → get_or v (d + 3) 0 ≡ 5 → Reduces v u (d + 6) n → WroteLeaf w u (span a b) (span d stop) n (Out.At e)
+      pub leaf_reduced : {u : List ℕ} → (n ≡ 0 → ⊥) → get_or v (d + 3) 0 ≡ 5 → Reduces v u (d + 6) n → WroteLeaf w u (span a b) (span d stop) n (Ok e)
       leaf_reduced {u} q c g t h o =
-          subst (λ x. Wrote w u d stop (tree_bytes x) (Out.At e)) (sym (part_reduced n t q))
+          subst (λ x. Wrote w u d stop (tree_bytes x) (Ok e)) (sym (part_reduced n t q))
           (divided t c (copied_tag t h) (copied_is t h) (copied t h) (o q) g)
 
 -- ---- a path: its end, a step, an array
@@ -248,9 +245,9 @@ module _ (q : List ℕ) (p : Span) (i : ℕ) (w : List ℕ) (a b d stop n : ℕ)
       tells_end q p i w a b (WroteParts n false w v (span d stop) (value_of r)) z
       (λ t h o. value_array (part n t ∷ []) r refl (subst (λ l. Wrote w v d stop l r) (one_bytes (part n t)) (k t h o.0)))
 
-  pub walk_missing : {r : Found} → i < step_count q p → Under q p i w (span a b) r → r ≡ Missing → Tells q p i w (span a b) (WroteParts n false w w (span d stop) Value.Absent)
+  pub walk_missing : {r : Found} → i < step_count q p → Under q p i w (span a b) r → r ≡ None → Tells q p i w (span a b) (WroteParts n false w w (span d stop) (Ok None))
   unfolding join
-  walk_missing m u z = tells_missing q p i w a b (WroteParts n false w w (span d stop) Value.Absent) m u z (λ o. value_absent w d stop refl)
+  walk_missing m u z = tells_missing q p i w a b (WroteParts n false w w (span d stop) (Ok None)) m u z (λ o. value_absent w d stop refl)
 
   -- the answer of a leaf is the answer
   pub walked_leaf : {v : List ℕ} {r : Out} {o : Value} → o ≡ value_of r → i ≡ step_count q p → Kept w v (span d stop) (value_of r) × WroteLeaf w v (span a b) (span d stop) n r
@@ -258,7 +255,7 @@ module _ (q : List ℕ) (p : Span) (i : ℕ) (w : List ℕ) (a b d stop n : ℕ)
   walked_leaf {v} {r} {o} y z k =
       (subst (Kept w v (span d stop)) (sym y) k.0, subst (λ c. Tells q p i w (span a b) (WroteParts n false w v (span d stop) c)) (sym y) (walk_end z k.1))
 
-  pub walk_under : {r : Found} {x y : ℕ} {v : List ℕ} {o : Value} → i < step_count q p → Under q p i w (span a b) r → r ≡ Part (span x y)
+  pub walk_under : {r : Found} {x y : ℕ} {v : List ℕ} {o : Value} → i < step_count q p → Under q p i w (span a b) r → r ≡ Some (span x y)
       → TellsOver q p (i + 1) w (span x y) (WroteParts n false w v (span d stop) o) → Tells q p i w (span a b) (WroteParts n false w v (span d stop) o)
   walk_under {v = v} {o = o} m u z k = tells_part q p i w a b (WroteParts n false w v (span d stop) o) m u z k
 
@@ -281,22 +278,22 @@ module _ (q : List ℕ) (p : Span) (i : ℕ) (w : List ℕ) (a b d stop n : ℕ)
 
   -- what was found in one piece, or is missing
   module _ {f : Found} (u : Tells q p i w (span a b) (λ x. FoundIs w (span a b) x f)) where
-    pub found_missing : f ≡ Missing → Tells q p i w (span a b) (WroteParts n false w w (span d stop) Value.Absent)
+    pub found_missing : f ≡ None → Tells q p i w (span a b) (WroteParts n false w w (span d stop) (Ok None))
     unfolding join
     found_missing z path t g h o = value_absent w d stop (ap (parts n) ((u path t g h).missing z))
 
-    found_copied : {x y : ℕ} {v : List ℕ} {r : Out} → f ≡ Part (span x y) → n ≡ 0 → Wrote w v d stop (take (y - x) (drop x w)) r
+    found_copied : {x y : ℕ} {v : List ℕ} {r : Out} → f ≡ Some (span x y) → n ≡ 0 → Wrote w v d stop (take (y - x) (drop x w)) r
         → Tells q p i w (span a b) (WroteParts n false w v (span d stop) (value_of r))
     found_copied {x} {y} z c k path t g h = let l = (u path t g h).part (span x y) z in array_copied l.array c l.same l.array_is k
 
-    pub walked_found : {x y : ℕ} {v : List ℕ} {r : Out} {o : Value} → o ≡ value_of r → f ≡ Part (span x y) → n ≡ 0 → d ≤ length w → d ≤ stop → Wrote w v d stop (take (y - x) (drop x w)) r
+    pub walked_found : {x y : ℕ} {v : List ℕ} {r : Out} {o : Value} → o ≡ value_of r → f ≡ Some (span x y) → n ≡ 0 → d ≤ length w → d ≤ stop → Wrote w v d stop (take (y - x) (drop x w)) r
         → Kept w v (span d stop) o × Tells q p i w (span a b) (WroteParts n false w v (span d stop) o)
     walked_found {v = v} {r = r} m z c l s k =
         (subst (Kept w v (span d stop)) (sym m) (wrote_kept r l s k), subst (λ o. Tells q p i w (span a b) (WroteParts n false w v (span d stop) o)) (sym m) (found_copied z c k))
 
-  pub over_empty : a ≡ b → d ≤ stop → TellsOver q p i w (span a b) (WroteParts n false w w (span d stop) (Value.At d))
+  pub over_empty : a ≡ b → d ≤ stop → TellsOver q p i w (span a b) (WroteParts n false w w (span d stop) (Ok (Some d)))
   unfolding join
-  over_empty z s = over_none q p i w a b (WroteParts n false w w (span d stop) (Value.At d)) z (λ o. value_done w d stop true s)
+  over_empty z s = over_none q p i w a b (WroteParts n false w w (span d stop) (Ok (Some d))) z (λ o. value_done w d stop true s)
 
   module _ (s : Bool) where
     pub walk_done : {o : Value} → o ≡ answer_of s d → a ≡ b → d ≤ stop → TellsJoined q p i w (span a b) (WroteParts n s w w (span d stop) o)
@@ -304,11 +301,11 @@ module _ (q : List ℕ) (p : Span) (i : ℕ) (w : List ℕ) (a b d stop n : ℕ)
         joined_end q p i w a b (WroteParts n s w w (span d stop) o) z (λ _. subst (λ c. WroteFound w w d stop (join (before s) none) c) (sym y) (value_done w d stop s l))
 
     module _ {m : ℕ} (z : a ≡ b → ⊥) (g : m ≡ field_end w a) {v : List ℕ} {r : Value} (k : Tells q p i w (span a m) (WroteParts n false w v (span d stop) r)) where
-      pub walk_stop : is_large r ≡ true → TellsJoined q p i w (span a b) (WroteParts n s w v (span d stop) Value.TooLarge)
+      pub walk_stop : is_large r ≡ true → TellsJoined q p i w (span a b) (WroteParts n s w v (span d stop) (Err too_large))
       unfolding join
       walk_stop l =
-          joined_next q p i w a b (WroteParts n false w v (span d stop) r) (λ x. Unit {0}) (WroteParts n s w v (span d stop) Value.TooLarge) z g
-          (λ x y f _ o. subst (λ c. WroteFound w v d stop (join (before s) c) Value.TooLarge) (sym (parts_join n x y))
+          joined_next q p i w a b (WroteParts n false w v (span d stop) r) (λ x. Unit {0}) (WroteParts n s w v (span d stop) (Err too_large)) z g
+          (λ x y f _ o. subst (λ c. WroteFound w v d stop (join (before s) c) (Err too_large)) (sym (parts_join n x y))
           (value_stop s r l (f (All-left (Rooted n) (given x) (given y) (subst (All (Rooted n)) (given_join x y) o))) (parts n y)))
           k (λ path ts h c. tt)
 
@@ -328,7 +325,7 @@ module _ {q : List ℕ} {p : Span} {i : ℕ} {w : List ℕ} {a b d stop n : ℕ}
   pub ready_leaf : WalkReady tree_bytes q p i w (span a b) (span d stop) n → LeafReady w (span a b) (span d stop) n
   ready_leaf h = record { tree = h.walk.stands; below = h.below; room = h.room; area = h.area; divisor = h.divisor }
 
-  pub ready_under : {r : Found} {x y : ℕ} → WalkReady tree_bytes q p i w (span a b) (span d stop) n → i < step_count q p → Under q p i w (span a b) r → r ≡ Part (span x y)
+  pub ready_under : {r : Found} {x y : ℕ} → WalkReady tree_bytes q p i w (span a b) (span d stop) n → i < step_count q p → Under q p i w (span a b) r → r ≡ Some (span x y)
       → WalkReady trees_bytes q p (i + 1) w (span x y) (span d stop) n
   ready_under h m u z = record {
     walk = walk_part h.walk m u z;

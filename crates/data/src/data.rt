@@ -1,6 +1,9 @@
 //! Writing what data give of a tree. The tree stands in the lent area, below the room, and its parts are copied once, into
 //! the room: a literal from the query, an array of the tree in one piece where it stands so. Members of a list are
 //! written one behind another, which joins them. A choice writes only the branch that is chosen.
+//! A writer answers where the trees of an array end, which are written with no head before them, so that one array joined
+//! to another is one piece behind the other; or that the data are absent, and nothing was written; or that the bytes did
+//! not fit.
 ghost use Rattle.std.specs.Prelude.{◌≡◌, map, true, false, ◌≤◌, length};
 ghost use Rattle.std.proofs.Math.Option;
 ghost use Rattle.spec_trees.specs.Tree.{node, boolean, bare, root};
@@ -17,11 +20,9 @@ ghost use Rattle.data.specs.Value.{value_of, WroteFound};
 ghost use Rattle.data.specs.Write.{LeafReady, WalkReady, WroteLeaf, Kept, WroteParts, DataReady, Gives, NestedDs, WroteLiteral, tested, listed_from};
 
 use crate::integer::reduce_at;
-use crate::value::{Value, answer_of, end_of, found_of, is_large, value_of};
-use areas::area::{Out, copy, copy_in, field_end};
+use areas::area::{TooLarge, copy, copy_in, field_end};
 use areas::span::Span;
 use criteria::criteria::holds;
-use format::labels::Found;
 use paths::path::{piece, under};
 use queries::data::{DataAt, data_at};
 use queries::path::steps;
@@ -32,23 +33,20 @@ const TRUE: [u8; 7] = [2, 0, 4, 4, 0, 1, 1];
 const FALSE: [u8; 7] = [2, 0, 4, 4, 0, 1, 0];
 
 /// Copies the tree. For a divisor other than 0 its root, if it is an integer, is divided by it.
-fn write_leaf(work: &mut [u8], divisor: usize, tree: Span, room: Span) -> Out
+fn write_leaf(work: &mut [u8], divisor: usize, tree: Span, room: Span) -> Result<usize, TooLarge>
     requires { LeafReady work.old tree room divisor }
     ensures { Kept work.old work.new room (value_of result) × WroteLeaf work.old work.new tree room divisor result }
 {
     let at = room.from;
-    let r = copy(work, tree, room);
-    let Out::At(e) = r else {
-        return Out::TooLarge;
-    };
+    let e = copy(work, tree, room)?;
     if divisor == 0 {
-        return Out::At(e);
+        return Ok(e);
     }
     if work[at + 3] != 5 {
-        return Out::At(e);
+        return Ok(e);
     }
     reduce_at(work, at + 6, divisor);
-    Out::At(e)
+    Ok(e)
 }
 
 /// Whether the trees at the end of a path, none of which is changed, are one piece with those under the same label.
@@ -62,6 +60,7 @@ fn in_piece(divisor: usize, i: usize, steps: usize) -> bool
 }
 
 /// What the path, from step i on, gives of the tree, with each root divided unless the divisor is 0.
+// 0 is no divisor, as in the definitions (`part`), which divide by n unless n is 0; so it is no Option.
 #[cycle(walking)]
 fn write_walk(
     work: &mut [u8],
@@ -71,16 +70,16 @@ fn write_walk(
     divisor: usize,
     tree: Span,
     room: Span,
-) -> Value
+) -> Result<Option<usize>, TooLarge>
     requires { WalkReady tree_bytes query.now path i work.old tree room divisor }
     ensures { Kept work.old work.new room result × Tells query.now path i work.old tree (WroteParts divisor false work.old work.new room result) }
 {
     if i == steps(query, path) {
-        return value_of(write_leaf(work, divisor, tree, room));
+        let end = write_leaf(work, divisor, tree, room)?;
+        return Ok(Some(end));
     }
-    let found = under(query, path, i, work, tree);
-    let Found::Part(part) = found else {
-        return Value::Absent;
+    let Some(part) = under(query, path, i, work, tree) else {
+        return Ok(None);
     };
     write_over(work, query, path, i + 1, divisor, part, room)
 }
@@ -95,7 +94,7 @@ fn write_over(
     divisor: usize,
     trees: Span,
     room: Span,
-) -> Value
+) -> Result<Option<usize>, TooLarge>
     requires { WalkReady trees_bytes query.now path i work.old trees room divisor }
     ensures { Kept work.old work.new room result × TellsOver query.now path i work.old trees (WroteParts divisor false work.old work.new room result) }
 {
@@ -104,15 +103,16 @@ fn write_over(
     let mut from = trees.from;
     let mut to = room.from;
     if in_piece(divisor, i, steps(query, path)) {
-        return value_of(copy(work, trees, room));
+        let end = copy(work, trees, room)?;
+        return Ok(Some(end));
     }
     if from == end {
-        return Value::At(to);
+        return Ok(Some(to));
     }
     let mut any = false;
     while from != end {
         let m = field_end(work, from);
-        let r = write_walk(
+        let one = write_walk(
             work,
             query,
             path,
@@ -120,19 +120,22 @@ fn write_over(
             divisor,
             Span { from, to: m },
             Span { from: to, to: stop },
-        );
-        if is_large(r) {
-            return Value::TooLarge;
-        }
-        to = end_of(r, to);
-        any = found_of(r, any);
+        )?;
+        to = one.unwrap_or(to);
+        any |= one.is_some();
         from = m;
     }
-    answer_of(any, to)
+    Ok(any.then_some(to))
 }
 
 /// What the path gives of the tree.
-pub fn write_path(work: &mut [u8], query: &[u8], path: Span, tree: Span, room: Span) -> Value
+pub fn write_path(
+    work: &mut [u8],
+    query: &[u8],
+    path: Span,
+    tree: Span,
+    room: Span,
+) -> Result<Option<usize>, TooLarge>
     requires { WalkReady tree_bytes query.now path 0 work.old tree room 0 }
     ensures { Tells query.now path 0 work.old tree (λ x. WroteFound work.old work.new room.from room.to x result) }
 {
@@ -140,22 +143,34 @@ pub fn write_path(work: &mut [u8], query: &[u8], path: Span, tree: Span, room: S
 }
 
 /// What the path gives of the tree. For a path of at most one label, as most aggregates have, it is copied in one piece.
-fn write_part(work: &mut [u8], query: &[u8], path: Span, tree: Span, room: Span) -> Value
+fn write_part(
+    work: &mut [u8],
+    query: &[u8],
+    path: Span,
+    tree: Span,
+    room: Span,
+) -> Result<Option<usize>, TooLarge>
     requires { WalkReady tree_bytes query.now path 0 work.old tree room 0 }
     ensures { Kept work.old work.new room result × Tells query.now path 0 work.old tree (WroteParts 0 false work.old work.new room result) }
 {
     if steps(query, path) <= 1 {
-        let found = piece(query, path, work, tree);
-        let Found::Part(part) = found else {
-            return Value::Absent;
+        let Some(part) = piece(query, path, work, tree) else {
+            return Ok(None);
         };
-        return value_of(copy(work, part, room));
+        let end = copy(work, part, room)?;
+        return Ok(Some(end));
     }
     write_walk(work, query, path, 0, 0, tree, room)
 }
 
 /// What the path gives over an array, by its trees.
-pub fn write_path_over(work: &mut [u8], query: &[u8], path: Span, trees: Span, room: Span) -> Value
+pub fn write_path_over(
+    work: &mut [u8],
+    query: &[u8],
+    path: Span,
+    trees: Span,
+    room: Span,
+) -> Result<Option<usize>, TooLarge>
     requires { WalkReady trees_bytes query.now path 0 work.old trees room 0 }
     ensures { TellsOver query.now path 0 work.old trees (λ x. WroteFound work.old work.new room.from room.to x result) }
 {
@@ -164,26 +179,23 @@ pub fn write_path_over(work: &mut [u8], query: &[u8], path: Span, trees: Span, r
     let mut from = trees.from;
     let mut to = room.from;
     if from == end {
-        return Value::At(to);
+        return Ok(Some(to));
     }
     let mut any = false;
     while from != end {
         let m = field_end(work, from);
-        let r = write_part(
+        let one = write_part(
             work,
             query,
             path,
             Span { from, to: m },
             Span { from: to, to: stop },
-        );
-        if is_large(r) {
-            return Value::TooLarge;
-        }
-        to = end_of(r, to);
-        any = found_of(r, any);
+        )?;
+        to = one.unwrap_or(to);
+        any |= one.is_some();
         from = m;
     }
-    answer_of(any, to)
+    Ok(any.then_some(to))
 }
 
 /// What the path gives of the tree, with the root of each tree divided.
@@ -194,7 +206,7 @@ pub fn write_reduced(
     divisor: usize,
     tree: Span,
     room: Span,
-) -> Value
+) -> Result<Option<usize>, TooLarge>
     requires { WalkReady tree_bytes query.now path 0 work.old tree room divisor × (1 ≤ divisor) }
     ensures { Tells query.now path 0 work.old tree (λ x. All (λ t. OkR (root t)) (given x) → WroteFound work.old work.new room.from room.to (Option.map (map (meant.reduced_tree divisor)) x) result) }
 {
@@ -202,17 +214,23 @@ pub fn write_reduced(
 }
 
 /// The array whose trees stand in the query.
-fn write_literal(work: &mut [u8], query: &[u8], trees: Span, room: Span) -> Value
+fn write_literal(
+    work: &mut [u8],
+    query: &[u8],
+    trees: Span,
+    room: Span,
+) -> Result<Option<usize>, TooLarge>
     requires { (trees.from ≤ trees.to) × (trees.to ≤ length query.now) × (room.from ≤ room.to) × (room.to ≤ length work.old) }
     ensures { WroteLiteral query.now trees work.old work.new room result }
 {
     let from = trees.from;
     let to = trees.to;
-    value_of(copy_in(work, &query[from..to], room))
+    let end = copy_in(work, &query[from..to], room)?;
+    Ok(Some(end))
 }
 
 /// The bare tree whose root is the boolean.
-fn put_boolean(work: &mut [u8], yes: bool, room: Span) -> Out
+fn put_boolean(work: &mut [u8], yes: bool, room: Span) -> Result<usize, TooLarge>
     requires { (room.from ≤ room.to) × (room.to ≤ length work.old) }
     ensures { Wrote work.old work.new room.from room.to (tree_bytes (node (boolean yes) bare)) result }
 {
@@ -230,7 +248,7 @@ fn write_test(
     tree: Span,
     room: Span,
     left: usize,
-) -> Value
+) -> Result<Option<usize>, TooLarge>
     requires { DataReady (NestedC left) criterion_bytes query.now criterion work.old tree room }
     ensures { Gives (NestedC left) criterion_bytes tested query.now criterion work.old work.new tree room result }
 {
@@ -239,7 +257,8 @@ fn write_test(
         to: tree.to,
     };
     let yes = holds(query, criterion, work, at, left);
-    value_of(put_boolean(work, yes, room))
+    let end = put_boolean(work, yes, room)?;
+    Ok(Some(end))
 }
 
 /// What the data, nested no deeper than `left`, give of the tree.
@@ -251,7 +270,7 @@ pub fn write_data(
     tree: Span,
     room: Span,
     left: usize,
-) -> Value
+) -> Result<Option<usize>, TooLarge>
     requires { DataReady (NestedD left) data_bytes query.now datum work.old tree room }
     ensures { Gives (NestedD left) data_bytes meant.value query.now datum work.old work.new tree room result }
 {
@@ -293,7 +312,7 @@ fn write_list(
     tree: Span,
     room: Span,
     left: usize,
-) -> Value
+) -> Result<Option<usize>, TooLarge>
     requires { DataReady (NestedDs left) datas_bytes query.now members work.old tree room }
     ensures { Gives (NestedDs left) datas_bytes (listed_from false) query.now members work.old work.new tree room result }
 {
@@ -304,7 +323,7 @@ fn write_list(
     let mut any = false;
     while at != end {
         let m = field_end(query, at);
-        let r = write_data(
+        let one = write_data(
             work,
             query,
             Span { from: at, to: m },
@@ -314,13 +333,10 @@ fn write_list(
             },
             Span { from: to, to: stop },
             left,
-        );
-        if is_large(r) {
-            return Value::TooLarge;
-        }
-        to = end_of(r, to);
-        any = found_of(r, any);
+        )?;
+        to = one.unwrap_or(to);
+        any |= one.is_some();
         at = m;
     }
-    answer_of(any, to)
+    Ok(any.then_some(to))
 }

@@ -4,4 +4,3 @@
 
 pub mod data;
 pub mod integer;
-pub mod value;

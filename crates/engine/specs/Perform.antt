@@ -10,10 +10,9 @@ use Rattle.spec_queries.specs.Again.{regroups, regrouped}
 use Rattle.spec_stages.specs.Stages.{going, stages}
 use Rattle.spec_stages.specs.Positions.{result_positions}
 use Rattle.queries.specs.declared.stage.GroupAt.{GroupAt}
-use Rattle.spec_run.specs.declared.answer.Answer.{Answer}
 use Rattle.spec_run.specs.Run.{Verdict, final, positions_after}
 use Rattle.queries.specs.Places.{Pairs}
-use Rattle.spec_run.specs.Answer.{AnswersAs}
+use Rattle.spec_run.specs.Answer.{AnswersAs, Answer}
 
 -- a run that came to the verdict x: the answer, the result area and the position area are as it says
 abbrev pub RanTo : (area entries : List ℕ) (x : Verdict) (a : Answer) (left noted : List ℕ) → Type 0

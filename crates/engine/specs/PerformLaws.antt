@@ -1,5 +1,5 @@
 -- The run answers as the plain run: a call that passed its tests by its stages, another by its refusal.
-use Rattle.std.specs.Prelude.{◌≡◌, refl, List, ◌++◌, Bool, ◌&&◌, ℕ, ◌≤◌, take, drop, replicate}
+use Rattle.std.specs.Prelude.{◌≡◌, refl, List, ◌++◌, Bool, ◌&&◌, ℕ, ◌≤◌, take, drop, replicate, Err, Ok, Err}
 use Rattle.std.proofs.Math.Path.{sym, ap}
 use Rattle.std.proofs.Common.{◌∙◌, arith, length-append, length-drop, length-take-le}
 use Rattle.std.proofs.Math.Bool.{true, false, cond}
@@ -16,17 +16,13 @@ use Rattle.spec_queries.specs.QueryLaws.{query_only, read_query_lem}
 use Rattle.spec_stages.specs.Stages.{too_long, overflow, State, going, large, halted, stages}
 use Rattle.spec_stages.specs.Positions.{carried, result_positions}
 use Rattle.spec_stages.specs.Positions as borne
-use Rattle.stretches.specs.declared.ended.Ended.{Ended}
-use Rattle.stretches.specs.Ended.{EndedIs, Forms, Runs}
+use Rattle.stretches.specs.Ended.{Ended, EndedIs, Forms, Runs}
 use Rattle.spec_run.specs.declared.answer.Refusal.{Refusal}
 use Rattle.spec_run.specs.declared.answer.Refusal.TheVariants.{ResultLong}
-use Rattle.spec_run.specs.declared.answer.Answer.{Answer}
-use Rattle.spec_run.specs.declared.answer.Answer.TheVariants.{Refused}
-use Rattle.checks.specs.declared.check.CallCheck.TheVariants as check_is
 use Rattle.spec_run.specs.Refusal.{keeps_work}
 use Rattle.spec_run.specs.Run.{Call, Verdict, gives, refused, refusal_at, final, verdict, number_in, length_in, result_after, zeros, work_after, positions_after, outcome_of, plain_run, plain_positions}
 use Rattle.spec_run.proofs.RunLaws.{reads_verdict}
-use Rattle.spec_run.specs.Answer.{numbered, lengthened, Answered, AnswersAs}
+use Rattle.spec_run.specs.Answer.{numbered, lengthened, Answered, AnswersAs, Answer}
 use Rattle.spec_run.specs.AnswerLaws.{AnsweredBy, by_run}
 use Rattle.checks.specs.Check.{call_check, Early}
 use Rattle.checks.specs.CheckLaws.{passed_reads, refused_early}
@@ -37,7 +33,7 @@ use Rattle.engine.specs.Perform.{Performs}
 -- ---- the outcome, by the verdict x on a result area and a work area
 module _ (area work : List ℕ) (x : Verdict) where
   -- it was refused before the stages: the work area is as the refusal leaves it
-  pub early_answered : {r : Refusal} → Early x r → {a : Answer} {cleared : List ℕ} → a ≡ Refused r
+  pub early_answered : {r : Refusal} → Early x r → {a : Answer} {cleared : List ℕ} → a ≡ Err r
       → cleared ≡ cond (keeps_work r) work (replicate (length work) 0) → AnsweredBy (outcome_of area work x) (numbered a) (lengthened a) area cleared
   unfolding outcome_of number_in length_in result_after work_after zeros
   early_answered y e w = record {
@@ -111,7 +107,7 @@ module _ {q i j w : List ℕ} {r : Ended} (k : Runs q i j w r) where
 
 -- ---- a call that passed its tests
 module _ (c : Call) (bq : AllBytes c.query) (bi : AllBytes c.input) (bj : AllBytes c.joined)
-    (z : call_check c.query c.input c.joined (length c.work) (length c.positions) ≡ check_is.Passed) where
+    (z : call_check c.query c.input c.joined (length c.work) (length c.positions) ≡ Ok tt) where
   pub passed_forms : Forms c.query c.input c.joined
   passed_forms =
       let (ss, ts, us, r) = passed_reads c z in
@@ -149,8 +145,8 @@ module _ (c : Call) (bq : AllBytes c.query) (bi : AllBytes c.input) (bj : AllByt
       by_run (ended_answered c.result c.work (verdict c) (length c.result) (result_positions us ss ts) (stages us ss (going ts)) v k.0 e) (k.1 ∙ ap (positions_after c.positions) (sym v))
 
 -- ---- a call that is refused by its tests
-pub refused_answered : (c : Call) {r : Refusal} → call_check c.query c.input c.joined (length c.work) (length c.positions) ≡ check_is.Refused r
-    → {a : Answer} {work : List ℕ} → a ≡ Refused r → work ≡ cond (keeps_work r) c.work (replicate (length c.work) 0)
+pub refused_answered : (c : Call) {r : Refusal} → call_check c.query c.input c.joined (length c.work) (length c.positions) ≡ Err r
+    → {a : Answer} {work : List ℕ} → a ≡ Err r → work ≡ cond (keeps_work r) c.work (replicate (length c.work) 0)
     → Answered c (numbered a) (lengthened a) c.result work c.positions
 unfolding plain_run plain_positions positions_after
 refused_answered c {r} z e w =

@@ -1,5 +1,5 @@
 -- The regrouping call answers as the plain regrouping: one that passed its tests by its group, another by its refusal.
-use Rattle.std.specs.Prelude.{◌≡◌, cond, ℕ, ◌≤◌, length, replicate}
+use Rattle.std.specs.Prelude.{◌≡◌, cond, ℕ, ◌≤◌, length, replicate, Ok, Err, Result}
 use Rattle.std.proofs.Common.{sym}
 use mathlib.Core.List.{List, [], ◌∷◌, ◌++◌}
 use Rattle.spec_trees.specs.Limits.{work_min}
@@ -10,17 +10,14 @@ use Rattle.spec_stages.specs.Stages.{going, stages}
 use Rattle.spec_stages.specs.Positions.{carried}
 use Rattle.spec_stages.specs.Positions as borne
 use Rattle.queries.specs.declared.stage.GroupAt.{GroupAt}
-use Rattle.stretches.specs.declared.ended.Ended.{Ended}
+use Rattle.stretches.specs.Ended.{Ended}
 use Rattle.regrouping.specs.JoinedGroup.{RegroupReady, Regroups}
 use Rattle.spec_run.specs.declared.answer.Refusal.{Refusal}
 use Rattle.spec_run.specs.Refusal.{keeps_work}
-use Rattle.spec_run.specs.declared.answer.Answer.{Answer}
-use Rattle.spec_run.specs.declared.answer.Answer.TheVariants.{Refused}
 use Rattle.spec_run.specs.Regroup.{RegroupCall, regroup_verdict, plain_regroup}
 use Rattle.spec_run.proofs.RegroupLaws.{reads_regroup}
-use Rattle.spec_run.specs.Answer.{numbered, lengthened, Regrouped}
+use Rattle.spec_run.specs.Answer.{numbered, lengthened, Regrouped, Answer}
 use Rattle.spec_run.specs.AnswerLaws.{by_regroup}
-use Rattle.checks.specs.declared.check.RegroupCheck.{RegroupCheck}
 use Rattle.checks.specs.RegroupCheck.{RegroupChecked}
 use Rattle.checks.specs.RegroupCheckLaws.{such_is}
 use Rattle.finish.specs.Finish.{FinishReady, Finishes}
@@ -41,8 +38,8 @@ module _ {q : List ℕ} {at : GroupAt} {a b w : List ℕ} {r : Ended} (k : Regro
       f (stages [] (regrouped ag gs ∷ []) (going (ts ++ us))) (carried [] (regrouped ag gs ∷ []) (borne.numbered 1 (ts ++ us))) (k ag gs ts us p d ea oa eb ob) []
 
 -- ---- a call whose tests answered r
-module _ (c : RegroupCall) {r : RegroupCheck} (h : RegroupChecked c.query c.first c.second (length c.work) r) where
-  module _ (ba : AllBytes c.first) (bb : AllBytes c.second) {at : GroupAt} (z : r ≡ RegroupCheck.Passed at) where
+module _ (c : RegroupCall) {r : Result GroupAt Refusal} (h : RegroupChecked c.query c.first c.second (length c.work) r) where
+  module _ (ba : AllBytes c.first) (bb : AllBytes c.second) {at : GroupAt} (z : r ≡ Ok at) where
     pub again_enough : work_min ≤ length c.work
     again_enough = (h.passed at z).0
 
@@ -78,7 +75,7 @@ module _ (c : RegroupCall) {r : RegroupCheck} (h : RegroupChecked c.query c.firs
         let o = p i.aggregates i.grouping k.first k.second i.pairs i.again (sym t.0) t.1 (sym u.0) u.1 in
         by_regroup (ended_answered c.result c.work (regroup_verdict c) (length c.result) [] (stages [] (s ∷ []) (going (k.first ++ k.second))) v o e)
 
-  pub again_refused : {t : Refusal} → r ≡ RegroupCheck.Refused t → {a : Answer} {work : List ℕ} → a ≡ Refused t
+  pub again_refused : {t : Refusal} → r ≡ Err t → {a : Answer} {work : List ℕ} → a ≡ Err t
       → work ≡ cond (keeps_work t) c.work (replicate (length c.work) 0) → Regrouped c (numbered a) (lengthened a) c.result work
   unfolding plain_regroup regroup_verdict
   again_refused {t} z e w = by_regroup (early_answered c.result c.work (regroup_verdict c) (h.refuses t z (length c.result)) e w)

@@ -4,7 +4,7 @@ ghost use Rattle.spec_run.specs.Refusal.{number_of};
 ghost use Rattle.spec_run.specs.Answer.{numbered, lengthened};
 ghost use Rattle.checks.specs.Check.{checked_as};
 
-use format::check::Check;
+use format::check::Fault;
 use spec_run::answer::{Answer, Refusal};
 
 /// The documents' number of a refusal.
@@ -33,8 +33,8 @@ pub fn number(answer: Answer) -> u64
     ensures { result ≡ numbered answer }
 {
     match answer {
-        Answer::Accepted(_) => 0,
-        Answer::Refused(r) => refusal_number(r),
+        Ok(_) => 0,
+        Err(r) => refusal_number(r),
     }
 }
 
@@ -42,19 +42,18 @@ pub fn number(answer: Answer) -> u64
 pub fn length(answer: Answer) -> usize
     ensures { result ≡ lengthened answer }
 {
-    match answer {
-        Answer::Accepted(n) => n,
-        Answer::Refused(_) => 0,
-    }
+    answer.unwrap_or(0)
 }
 
 /// The documents' number of a check: 0 if it accepts, else that of the refusal that it stands for.
-pub fn check_number(check: Check, long: Refusal, malformed: Refusal) -> u64
+pub fn check_number(check: Result<(), Fault>, long: Refusal, malformed: Refusal) -> u64
     ensures { result ≡ checked_as check long malformed }
 {
     match check {
-        Check::Accepted => 0,
-        Check::Overlong => refusal_number(long),
-        Check::Malformed => refusal_number(malformed),
+        Ok(()) => 0,
+        Err(fault) => match fault {
+            Fault::Overlong => refusal_number(long),
+            Fault::Malformed => refusal_number(malformed),
+        },
     }
 }

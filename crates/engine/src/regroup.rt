@@ -6,7 +6,7 @@ ghost use Rattle.regrouping.specs.JoinedGroup.{RegroupReady};
 ghost use Rattle.engine.specs.Perform.{PerformsAgain};
 
 use areas::area::clear;
-use checks::check::{RegroupCheck, check_regroup};
+use checks::check::check_regroup;
 use finish::finish::{finish, refuse};
 use format::limits::Limits;
 use queries::stage::GroupAt;
@@ -43,13 +43,12 @@ pub fn regroup<'a>(
         (regroup_call query.now first.now second.now work.old res.old)
         (numbered result) (lengthened result) res.new work.new }
 {
-    let check = check_regroup(query, first, second, work.len());
-    match check {
-        RegroupCheck::Passed(group) => {
-            let a = perform_again(query, group, first, second, &mut work[..Limits::WORK], res);
+    match check_regroup(query, first, second, work.len()) {
+        Ok(group) => {
+            let answer = perform_again(query, group, first, second, &mut work[..Limits::WORK], res);
             clear(work);
-            a
+            answer
         }
-        RegroupCheck::Refused(refusal) => refuse(refusal, work),
+        Err(refusal) => refuse(refusal, work),
     }
 }

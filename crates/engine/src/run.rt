@@ -8,7 +8,7 @@ ghost use Rattle.spec_run.specs.Answer.{numbered, lengthened, Answered};
 ghost use Rattle.engine.specs.Perform.{Performs};
 
 use areas::area::clear;
-use checks::check::{CallCheck, check_call};
+use checks::check::check_call;
 use finish::finish::{finish, refuse};
 use finish::lines::write_positions;
 use format::limits::Limits;
@@ -49,20 +49,17 @@ pub fn run<'a>(
         (call query.now input.now joined.now work.old res.old positions.old)
         (numbered result) (lengthened result) res.new work.new positions.new }
 {
-    let check = check_call(query, input, joined, work.len(), positions.len());
-    match check {
-        CallCheck::Passed => {
-            let a = perform(
-                query,
-                input,
-                joined,
-                &mut work[..Limits::WORK],
-                res,
-                positions,
-            );
-            clear(work);
-            a
-        }
-        CallCheck::Refused(refusal) => refuse(refusal, work),
+    if let Err(refusal) = check_call(query, input, joined, work.len(), positions.len()) {
+        return refuse(refusal, work);
     }
+    let answer = perform(
+        query,
+        input,
+        joined,
+        &mut work[..Limits::WORK],
+        res,
+        positions,
+    );
+    clear(work);
+    answer
 }

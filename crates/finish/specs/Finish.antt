@@ -7,10 +7,8 @@ use Rattle.queries.specs.Places.{array_trees}
 use Rattle.spec_stages.specs.Stages.{State, going}
 use Rattle.spec_stages.specs.Positions.{Borne}
 use Rattle.map.specs.Map.{collected_at}
-use Rattle.stretches.specs.declared.ended.Ended.{Ended}
-use Rattle.stretches.specs.Ended.{EndedIs}
-use Rattle.spec_run.specs.declared.answer.Answer.{Answer}
-use Rattle.spec_run.specs.Answer.{AnswersAs}
+use Rattle.stretches.specs.Ended.{Ended, EndedIs}
+use Rattle.spec_run.specs.Answer.{AnswersAs, Answer}
 use Rattle.spec_run.specs.Run.{final}
 
 -- n bytes of trees stand in the collector

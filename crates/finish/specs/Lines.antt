@@ -3,11 +3,9 @@ use Rattle.std.specs.Prelude.{◌≡◌, List, ℕ, ◌≤◌, length}
 use Rattle.spec_trees.specs.Limits.{work_min, positions_min}
 use Rattle.spec_stages.specs.Stages.{State}
 use Rattle.spec_stages.specs.Positions.{Borne, positions}
-use Rattle.stretches.specs.declared.ended.Ended.{Ended}
-use Rattle.stretches.specs.Ended.{EndedIs}
-use Rattle.spec_run.specs.declared.answer.Answer.{Answer}
+use Rattle.stretches.specs.Ended.{Ended, EndedIs}
 use Rattle.spec_run.specs.Run.{Verdict, final, number_in, length_in, positions_after}
-use Rattle.spec_run.specs.Answer.{numbered, lengthened}
+use Rattle.spec_run.specs.Answer.{numbered, lengthened, Answer}
 
 -- the run came to the verdict x: that of the state in which its stages ended, whose trees stand in w and bear their
 -- positions there; a has its number and its length

@@ -1,6 +1,6 @@
 -- Laws of the position area at the end of a run: an accepted run's trees stand in the collector with their positions,
 -- and a refusal in or after the stages clears the area.
-use Rattle.std.specs.Prelude.{◌≡◌, refl, List, ◌++◌, Bool, true, false, cond, ◌&&◌, ℕ, ◌+◌, ◌-◌, ◌≤◌, ◌<◌, length, replicate, leb}
+use Rattle.std.specs.Prelude.{◌≡◌, refl, List, ◌++◌, Bool, true, false, cond, ◌&&◌, ℕ, ◌+◌, ◌-◌, ◌≤◌, ◌<◌, length, replicate, leb, Ok, Err}
 use Rattle.std.proofs.Math.Path.{sym, ap}
 use Rattle.std.proofs.Common.{subst, ◌∙◌, arith}
 use Rattle.std.proofs.Math.ListN.{drop, length-map}
@@ -16,17 +16,14 @@ use Rattle.spec_stages.specs.Positions.{Borne, unmarked, positions}
 use Rattle.map.specs.Map.{collected_at}
 use Rattle.positions.specs.Bearing.{Bears, StandFrom, Standing}
 use Rattle.positions.specs.Entries.{Enters}
-use Rattle.stretches.specs.declared.ended.Ended.{Ended}
-use Rattle.stretches.specs.declared.ended.Ended.TheVariants.{Held, Large, Long, Overflow, Full}
-use Rattle.stretches.specs.Ended.{HeldIs, EndedIs}
+use Rattle.stretches.specs.Ended.{Ended, HeldIs, EndedIs}
+use Rattle.stretches.specs.declared.ended.Failure.TheVariants as failure
 use Rattle.spec_run.specs.declared.answer.Refusal.{Refusal}
 use Rattle.spec_run.specs.declared.answer.Refusal.TheVariants.{ResultLong}
 use Rattle.spec_run.specs.Refusal.{keeps_result}
-use Rattle.spec_run.specs.declared.answer.Answer.{Answer}
-use Rattle.spec_run.specs.declared.answer.Answer.TheVariants.{Accepted, Refused}
 use Rattle.spec_run.specs.Run.{Verdict, gives, refused, refusal_at, final, number_in, length_in, zeros, positions_after}
 use Rattle.spec_run.proofs.RunLaws.{refusal_most, accepts_gives, final_out}
-use Rattle.spec_run.specs.Answer.{numbered, lengthened}
+use Rattle.spec_run.specs.Answer.{numbered, lengthened, Answer}
 use Rattle.finish.specs.Lines.{ComesTo, LinesReady, Lines}
 use Rattle.finish.specs.FinishLaws.{bytes_size, held_length}
 
@@ -34,11 +31,11 @@ use Rattle.finish.specs.FinishLaws.{bytes_size, held_length}
 -- the stages ended with an array, whose trees the collector holds
 ended_held : {w : List ℕ} {st : State} {bs : List Borne} (r : Ended) → EndedIs w r st bs → (fs : List Tree) → st ≡ going fs → array_size fs ≤ array_max
     → (n : ℕ) × HeldIs w n st bs
-ended_held (Held n) h fs e s = (n, h.held n refl)
-ended_held Large h fs e s = let y = h.large_is refl in let z : ◌≡◌ {A = ℕ} 0 1 = cc in absurd (omega arith)
-ended_held Long h fs e s = let y = h.long_is refl in let z : ◌≡◌ {A = ℕ} 0 1 = cc in absurd (omega arith)
-ended_held Overflow h fs e s = let y = h.overflow_is refl in let z : ◌≡◌ {A = ℕ} 0 1 = cc in absurd (omega arith)
-ended_held Full h fs e s =
+ended_held (Ok n) h fs e s = (n, h.held n refl)
+ended_held (Err failure.Large) h fs e s = let y = h.large_is refl in let z : ◌≡◌ {A = ℕ} 0 1 = cc in absurd (omega arith)
+ended_held (Err failure.Long) h fs e s = let y = h.long_is refl in let z : ◌≡◌ {A = ℕ} 0 1 = cc in absurd (omega arith)
+ended_held (Err failure.Overflow) h fs e s = let y = h.overflow_is refl in let z : ◌≡◌ {A = ℕ} 0 1 = cc in absurd (omega arith)
+ended_held (Err failure.Full) h fs e s =
     let f = h.full refl in
     let y : going fs ≡ going f.trees = sym e ∙ f.same in
     let z : fs ≡ f.trees = cc in
@@ -57,7 +54,7 @@ final_gives : (room : ℕ) (ps : List ℕ) (ts : List Tree) → array_size ts �
 unfolding final
 final_gives room ps ts s m = rw (leb_yes (array_size ts) array_max s, leb_yes (array_size ts) room m) refl
 
-pub accepted_printed : {w : List ℕ} {a : Answer} {x : Verdict} {n : ℕ} → ComesTo w a x → a ≡ Accepted n → Printed w n x
+pub accepted_printed : {w : List ℕ} {a : Answer} {x : Verdict} {n : ℕ} → ComesTo w a x → a ≡ Ok n → Printed w n x
 unfolding length_in
 accepted_printed {w} {a} {x} {n} h z =
     let (b, qs, e) = accepts_gives x (sym h.number_is ∙ ap numbered z) in
@@ -81,7 +78,7 @@ accepted_printed {w} {a} {x} {n} h z =
     }
 
 -- an entry for each of them is asked for, and is written
-module _ {w : List ℕ} {a : Answer} {n : ℕ} (z : a ≡ Accepted n) where
+module _ {w : List ℕ} {a : Answer} {n : ℕ} (z : a ≡ Ok n) where
   pub entries_ready : {entries : List ℕ} → LinesReady w a entries → (3 ≤ n) × Standing w 0 (n - 3) × (positions_min ≤ length entries)
   entries_ready h =
       let p = accepted_printed h.comes z in
@@ -106,7 +103,7 @@ final_zero room ps (going ts) area l = go (leb (array_size ts) array_max && leb 
     go true l = absurd (omega arith)
     go false l = refl
 
-pub refused_lines : {w : List ℕ} {a : Answer} {t : Refusal} (entries : List ℕ) {left : List ℕ} → a ≡ Refused t → left ≡ replicate (length entries) 0 → Lines w a entries left
+pub refused_lines : {w : List ℕ} {a : Answer} {t : Refusal} (entries : List ℕ) {left : List ℕ} → a ≡ Err t → left ≡ replicate (length entries) 0 → Lines w a entries left
 unfolding zeros
 refused_lines {t = t} entries z e x h =
     let y = h.verdict_is in

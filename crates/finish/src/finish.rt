@@ -9,46 +9,36 @@ ghost use Rattle.finish.specs.Finish.{AcceptReady, Accepts, FinishReady, Finishe
 use areas::area::{clear, emit, put_head};
 use map::map::Map;
 use spec_run::answer::{Answer, Refusal};
-use stretches::ended::Ended;
+use stretches::ended::Failure;
 
 /// Whether a refusal leaves the work area as it was.
+#[tactic(auto, unfolding(spec_run::specs::Refusal::keeps_work))]
 fn keeps_work(refusal: Refusal) -> bool
     ensures { result ≡ keeps_work refusal }
 {
     match refusal {
-        Refusal::WorkShort => true,
-        Refusal::PositionsShort => true,
-        Refusal::MessageMalformed => false,
-        Refusal::QueryLong => false,
-        Refusal::QueryMalformed => false,
-        Refusal::InputLong => false,
-        Refusal::InputMalformed => false,
-        Refusal::JoinedLong => false,
-        Refusal::JoinedMalformed => false,
-        Refusal::TotalLarge => false,
-        Refusal::TreeLarge => false,
-        Refusal::GroupLong => false,
-        Refusal::ResultLong => false,
+        Refusal::WorkShort | Refusal::PositionsShort => true,
+        _ => false,
     }
 }
 
 /// A refusal before the stages: the work area is zero, unless the refusal keeps it; no other area is touched.
 pub fn refuse(refusal: Refusal, work: &mut [u8]) -> Answer
-    ensures { (result ≡ Answer.Refused refusal) × (work.new ≡ cond (keeps_work refusal) work.old (replicate (length work.old) 0)) }
+    ensures { (result ≡ Err refusal) × (work.new ≡ cond (keeps_work refusal) work.old (replicate (length work.old) 0)) }
 {
     if keeps_work(refusal) {
-        return Answer::Refused(refusal);
+        return Err(refusal);
     }
     clear(work);
-    Answer::Refused(refusal)
+    Err(refusal)
 }
 
 /// A refusal in or after the stages: the result area is zero.
 fn fail(refusal: Refusal, res: &mut [u8]) -> Answer
-    ensures { (result ≡ Answer.Refused refusal) × (res.new ≡ replicate (length res.old) 0) }
+    ensures { (result ≡ Err refusal) × (res.new ≡ replicate (length res.old) 0) }
 {
     clear(res);
-    Answer::Refused(refusal)
+    Err(refusal)
 }
 
 /// Writes the array whose trees are `trees` over all of `out`: its head, and the trees directly behind it.
@@ -58,7 +48,7 @@ fn write_array(out: &mut [u8], trees: &[u8])
 {
     let end = out.len();
     put_head(out, 0, 1, end);
-    emit(out, 3, trees);
+    let _ = emit(out, 3, trees);
 }
 
 /// The array of whose trees the collector holds `len` bytes: it is written, if the result area has room for it.
@@ -71,19 +61,16 @@ fn accept(work: &[u8], len: usize, res: &mut [u8]) -> Answer
     }
     let from = Map::COLLECTED;
     write_array(&mut res[..len + 3], &work[from..from + len]);
-    Answer::Accepted(len + 3)
+    Ok(len + 3)
 }
 
 /// The answer of a call whose stages ended so.
-pub fn finish(work: &[u8], ended: Ended, res: &mut [u8]) -> Answer
+pub fn finish(work: &[u8], ended: Result<usize, Failure>, res: &mut [u8]) -> Answer
     requires { FinishReady work.now ended }
     ensures { Finishes work.now ended res.old res.new result }
 {
     match ended {
-        Ended::Held(n) => accept(work, n, res),
-        Ended::Large => fail(Refusal::TreeLarge, res),
-        Ended::Long => fail(Refusal::GroupLong, res),
-        Ended::Overflow => fail(Refusal::TotalLarge, res),
-        Ended::Full => fail(Refusal::ResultLong, res),
+        Ok(n) => accept(work, n, res),
+        Err(failure) => fail(Refusal::from(failure), res),
     }
 }

@@ -11,7 +11,7 @@ pub fn write_positions(work: &[u8], answer: Answer, positions: &mut [u16])
     ensures { Lines work.now answer positions.old positions.new }
 {
     match answer {
-        Answer::Accepted(n) => write_entries(positions, work, n - 3),
-        Answer::Refused(_) => clear_entries(positions),
+        Ok(n) => write_entries(positions, work, n - 3),
+        Err(_) => clear_entries(positions),
     }
 }

@@ -1,16 +1,14 @@
 -- Laws of the first stretch: without a stage the trees are collected as they are; else what is right for the trees that
 -- are left is right for all.
-use Rattle.std.specs.Prelude.{◌≡◌, refl, List, [], ◌∷◌, ◌++◌, Bool, true, false, ℕ, suc, ◌+◌, ◌-◌, ◌*◌, ◌≤◌, length, take, drop}
+use Rattle.std.specs.Prelude.{◌≡◌, refl, List, [], ◌∷◌, ◌++◌, Bool, true, false, ℕ, suc, ◌+◌, ◌-◌, ◌*◌, ◌≤◌, length, take, drop, Ok}
 use Rattle.std.proofs.Common.{sym, ap, ◌∙◌, arith}
 use Rattle.std.proofs.Math.Path.{subst}
-use Rattle.areas.specs.declared.area.Out.{Out}
-use Rattle.areas.specs.declared.area.Out.TheVariants.{At}
 use Rattle.spec_trees.specs.Limits.{array_max, tree_max, depth_max, work_min}
 use Rattle.spec_trees.specs.Tree.{Tree}
 use Rattle.spec_trees.specs.SizeLaws.{length_tree}
 use Rattle.spec_trees.specs.Bytes.{tree_bytes}
 use Rattle.spec_trees.specs.Within.{Allowed, AllowedA}
-use Rattle.areas.specs.Area.{Is, Wrote, field_end, span}
+use Rattle.areas.specs.Area.{Is, Wrote, field_end, span, Out}
 use Rattle.areas.specs.declared.span.Span.{Span}
 use Rattle.areas.specs.AreaLaws.{is_part_lem, is_keep, told, written}
 use Rattle.format.specs.Stand.{Says}
@@ -109,13 +107,13 @@ module _ {t b q : List ℕ} {p : Span} {j : List ℕ} {s : Collector} (h : TreeR
   tree_small = (omega (arith, ap length h.tree_is, length_tree h.tree, h.allowed.small), omega (arith, h.room))
 
   module _ {v : List ℕ} {o : Out} (l : length v ≡ length t) (k : Wrote t v 0 tree_max b o) where
-    put : (x : Tree) → Allowed depth_max x → b ≡ tree_bytes x → Wrote t v 0 tree_max (tree_bytes x) (At (length b))
+    put : (x : Tree) → Allowed depth_max x → b ≡ tree_bytes x → Wrote t v 0 tree_max (tree_bytes x) (Ok (length b))
     put x a e =
         let f : Wrote t v 0 tree_max (tree_bytes x) o = subst (λ y. Wrote t v 0 tree_max y o) e k in
         told o
         (λ y z.
         let u : y ≡ length b = omega (arith, (f.fits y z).ends, ap length e) in
-        subst (λ y2. Wrote t v 0 tree_max (tree_bytes x) y2) (z ∙ ap At u) f)
+        subst (λ y2. Wrote t v 0 tree_max (tree_bytes x) y2) (z ∙ ap Ok u) f)
         (λ z. absurd (omega (arith, (f.large z).over, length_tree x, a.small)))
 
     front : (x : Tree) → Allowed depth_max x → b ≡ tree_bytes x → Front v (length b) x

@@ -57,7 +57,7 @@ fn feed_tree<'a>(
         from: 0,
         to: Limits::TREE,
     };
-    copy_in(area, tree, room);
+    let _ = copy_in(area, tree, room);
     feed(area, tree.len(), query, stages, joined, collector)
 }
 
@@ -109,7 +109,7 @@ pub fn first<'a>(
             to: Map::COLLECTED + Map::TREES,
         };
         let len = input.len() - 3;
-        copy_in(work, &input[3..], room);
+        let _ = copy_in(work, &input[3..], room);
         number(work, len);
         return Collector::Len(len as u16);
     }

@@ -1,5 +1,5 @@
 -- What a check of bytes comes to: whether the readers of `Decode` read them, as a test.
-use Rattle.std.specs.Prelude.{◌≡◌, List, Bool, true, false, ◌&&◌, ℕ, ◌+◌, ◌-◌, ◌≤◌, ◌<◌, ltb}
+use Rattle.std.specs.Prelude.{◌≡◌, List, Bool, true, false, ◌&&◌, ℕ, ◌+◌, ◌-◌, ◌≤◌, ◌<◌, ltb, Result, Some, Ok, Err}
 use Rattle.std.proofs.Math.Seq.{slice}
 use Rattle.spec_trees.specs.Options.{maybe, some?}
 use Rattle.spec_trees.specs.Lists.{each}
@@ -7,13 +7,12 @@ use Rattle.spec_trees.specs.Bytes.{Field}
 use Rattle.spec_trees.specs.Readers.{inside, one, Tested, accepted, overlong, malformed}
 use Rattle.spec_trees.specs.Decode.{root_r, array_with, label_r, labels_with, tree_r, array_r}
 use Rattle.areas.specs.declared.span.Span.{Span}
-use Rattle.format.specs.declared.head.Head.TheVariants as head
 use Rattle.format.specs.declared.check.Place.{Place}
 use Rattle.format.specs.declared.check.Step.{Step}
 use Rattle.format.specs.declared.check.Step.TheVariants.{On, Labels, Done, Bad}
-use Rattle.format.specs.Head.{head_at}
-use Rattle.format.specs.declared.check.Check.{Check}
-use Rattle.format.specs.declared.check.Check.TheVariants.{Accepted, Overlong, Malformed}
+use Rattle.format.specs.Head.{field_at, head_at}
+use Rattle.format.specs.declared.check.Fault.{Fault}
+use Rattle.format.specs.declared.check.Fault.TheVariants.{Overlong, Malformed}
 
 -- ---- fields
 -- a root field
@@ -86,11 +85,11 @@ Enters s p end r = (d : ℕ) → Stepped d s p end r
 pub record BareAt (s : List ℕ) (at stop tag len : ℕ) : Type 0 where
   pub small : len < 253
   pub ends : at + (6 + len) ≤ stop
-  pub tree : head_at s at stop ≡ head.Field 2 (at + 3) (at + (6 + len))
-  pub root : head_at s (at + 3) (at + (6 + len)) ≡ head.Field tag (at + 6) (at + (6 + len))
+  pub tree : head_at s at stop ≡ Some (field_at 2 (at + 3) (at + (6 + len)))
+  pub root : head_at s (at + 3) (at + (6 + len)) ≡ Some (field_at tag (at + 6) (at + (6 + len)))
 
 -- ---- the answer of a public check of a lent piece, an array or a query
-abbrev pub check_of : {A : Type 0} → Tested A → Check
-check_of (accepted a) = Accepted
-check_of overlong = Overlong
-check_of malformed = Malformed
+abbrev pub check_of : {A : Type 0} → Tested A → Result Unit Fault
+check_of (accepted a) = Ok tt
+check_of overlong = Err Overlong
+check_of malformed = Err Malformed

@@ -1,5 +1,5 @@
 -- The steps of the check, in the terms in which the code meets them, and what an accepted array is.
-use Rattle.std.specs.Prelude.{◌≡◌, List, [], ◌∷◌, Bool, ◌&&◌, ℕ, zero, suc, ◌+◌, ◌-◌, ◌*◌, ◌≤◌, ◌<◌, leb}
+use Rattle.std.specs.Prelude.{◌≡◌, List, [], ◌∷◌, Bool, ◌&&◌, ℕ, zero, suc, ◌+◌, ◌-◌, ◌*◌, ◌≤◌, ◌<◌, leb, Some, None, Ok, Err}
 use Rattle.std.proofs.Math.Path.{refl, sym, ap}
 use Rattle.std.proofs.Common.{subst, ◌∙◌, sub-one, arith}
 use Rattle.std.proofs.Math.Bool.{true, false}
@@ -16,16 +16,14 @@ use Rattle.spec_trees.specs.Readers.{Reader, inside, one, chosen, among, tagged,
 use Rattle.spec_trees.specs.Decode.{bit, root_r, array_with, label_c, label_r, labels_with, tree_c, tree_r, array_r, decode_array, read_array}
 use Rattle.spec_trees.specs.Bytes
 use Rattle.spec_trees.specs.Readers
-use Rattle.format.specs.declared.head.Head.{Head}
-use Rattle.format.specs.declared.head.Head.TheVariants.{Field, Nothing}
-use Rattle.format.specs.declared.check.Check.TheVariants.{Accepted, Overlong, Malformed}
+use Rattle.format.specs.declared.check.Fault.TheVariants.{Overlong, Malformed}
 use Rattle.areas.specs.declared.span.Span.{Span}
 use Rattle.areas.specs.Area.{span}
 use Rattle.format.specs.declared.check.Place.{Place}
 use Rattle.format.specs.declared.check.Step.{Step}
 use Rattle.format.specs.declared.check.Step.TheVariants.{On, Labels, Done, Bad}
 use Rattle.format.specs.Labels.{label_at}
-use Rattle.format.specs.Head.{low_two, head_at, span_at}
+use Rattle.format.specs.Head.{Head, field_at, low_two, head_at, span_at}
 use Rattle.format.specs.Check.{root_ok, tree_ok, array_ok, label_ok, trees_ok, labels_ok, input_ok, check_of, place, rest_ok, Onward, Inward, Stepped, BareAt}
 use Rattle.spec_trees.specs.Bytes.{label_tag, two_limit}
 use Rattle.spec_trees.specs.OptionLaws.{only_some, map_some}
@@ -122,7 +120,7 @@ bind_bad (some a) g h = let z : ◌≡◌ {A = ℕ} 0 1 = cc in absurd (omega ar
 
 -- ---- trees, one after another
 module _ (s : List ℕ) (at end : ℕ) (within : end ≤ length s) (d : ℕ) where
-  module _ (t f e : ℕ) (h : head_at s at end ≡ Field t f e) where
+  module _ (t f e : ℕ) (h : head_at s at end ≡ Some (field_at t f e)) where
     trees_next : tree_ok d (t, slice f e s) ≡ true → trees_ok d (slice at end s) ≡ trees_ok d (slice e end s)
     unfolding trees_ok tree_ok each
     trees_next k = inside_next s at end within t f e h (each (tree_r d)) (each (tree_r d)) (λ fs. bind_good (tree_r d (t, slice f e s)) _ _ k (λ a. some_map _ _))
@@ -138,7 +136,7 @@ module _ (s : List ℕ) (at end : ℕ) (within : end ≤ length s) (d : ℕ) whe
         go true q = trees_next q
         go false q = trees_bad q
 
-  pub trees_nothing : at < end → head_at s at end ≡ Nothing → trees_ok d (slice at end s) ≡ false
+  pub trees_nothing : at < end → head_at s at end ≡ None → trees_ok d (slice at end s) ≡ false
   unfolding trees_ok
   trees_nothing l h = inside_nothing s at end within (each (tree_r d)) l h
 
@@ -178,7 +176,7 @@ module _ (s : List ℕ) (from to d t : ℕ) (within : to ≤ length s) where
     content : tree_ok d (t, slice from to s) ≡ some? (inside (tree_c (tree_r (d - 1))) (slice from to s))
     content = small d t (slice from to s) deep tag (omega (arith, length-slice from to s within))
 
-    module _ (u f e : ℕ) (h : head_at s from to ≡ Field u f e) where
+    module _ (u f e : ℕ) (h : head_at s from to ≡ Some (field_at u f e)) where
       pub tree_labels : root_ok (u, slice f e s) ≡ true → tree_ok d (t, slice from to s) ≡ labels_ok (d - 1) 0 (slice e to s)
       unfolding root_ok labels_ok tree_c
       tree_labels k =
@@ -190,7 +188,7 @@ module _ (s : List ℕ) (from to d t : ℕ) (within : to ≤ length s) where
       tree_root k = content ∙ inside_bad s from to within u f e h (tree_c (tree_r (d - 1))) (λ fs. bind_bad (root_r (u, slice f e s)) _ k)
 
     -- no root
-    pub tree_nothing : head_at s from to ≡ Nothing → tree_ok d (t, slice from to s) ≡ false
+    pub tree_nothing : head_at s from to ≡ None → tree_ok d (t, slice from to s) ≡ false
     unfolding tree_c some?
     tree_nothing h = content ∙ inside_none (tree_c (tree_r (d - 1))) s from to within order refl h
 
@@ -263,7 +261,7 @@ module _ (s : List ℕ) (at to d k t : ℕ) (within : to ≤ length s) where
     unfolding is_label
     label_high l = label_is ∙ rw (lt-leb j label_max l, and_false (leb 1 j)) refl
 
-    pub label_nothing : span_at s (at + 4) to ≡ Nothing → label_ok d k (t, slice (at + 3) to s) ≡ false
+    pub label_nothing : span_at s (at + 4) to ≡ None → label_ok d k (t, slice (at + 3) to s) ≡ false
     unfolding span_ok some?
     label_nothing h =
         let n : span_ok d (slice (at + 4) to s) ≡ false = ap some? (span_none s (at + 4) to within (λ a. a) (array_with (tree_r d)) (omega arith) h) in
@@ -274,7 +272,7 @@ module _ (s : List ℕ) (at to d k t : ℕ) (within : to ≤ length s) where
       unfolding is_label
       spans = label_is ∙ rw (le-leb 1 j (omega arith), le-leb j label_max high, lt-ltb k j low) refl
 
-      pub label_array : (u f e : ℕ) → span_at s (at + 4) to ≡ Field u f e → label_ok d k (t, slice (at + 3) to s) ≡ array_ok d (u, slice f e s)
+      pub label_array : (u f e : ℕ) → span_at s (at + 4) to ≡ Some (field_at u f e) → label_ok d k (t, slice (at + 3) to s) ≡ array_ok d (u, slice f e s)
       unfolding span_ok array_ok
       label_array u f e h = spans ∙ inside_one s (at + 4) to within (λ a. a) (array_with (tree_r d)) u f e h
 
@@ -327,7 +325,7 @@ labels_on d k f fs none e h = rw e refl
 labels_on d k f fs (some l) e h = rw (e, h) refl
 
 module _ (s : List ℕ) (at end : ℕ) (within : end ≤ length s) (d k : ℕ) where
-  module _ (t f e : ℕ) (h : head_at s at end ≡ Field t f e) where
+  module _ (t f e : ℕ) (h : head_at s at end ≡ Some (field_at t f e)) where
     placed : label_ok d k (t, slice f e s) ≡ label_ok d k (t, slice (at + 3) e s)
     placed = ap (λ i. label_ok d k (t, slice i e s)) (head_found s at end within t f e h).start
 
@@ -353,7 +351,7 @@ module _ (s : List ℕ) (at end : ℕ) (within : end ≤ length s) (d k : ℕ) w
         go true q = labels_next j i q
         go false q = labels_bad q
 
-  pub labels_nothing : at < end → head_at s at end ≡ Nothing → labels_ok d k (slice at end s) ≡ false
+  pub labels_nothing : at < end → head_at s at end ≡ None → labels_ok d k (slice at end s) ≡ false
   unfolding labels_ok
   labels_nothing l h = inside_nothing s at end within (labels_with (tree_r d) k) l h
 
@@ -396,17 +394,17 @@ module _ (s : List ℕ) (p : Place) (within : p.stop ≤ length s) (d end : ℕ)
   rest_deep q l = go (head_at s p.at p.stop) refl
     where
       go : (h : Head) → head_at s p.at p.stop ≡ h → rest_ok d s p end ≡ false
-      go (Field t f e) h = no_trees (trees_bad s p.at p.stop within d t f e h (tree_deep d (t, slice f e s) q))
-      go Nothing h = no_trees (trees_nothing s p.at p.stop within d l h)
+      go (Some f) h = no_trees (trees_bad s p.at p.stop within d f.tag f.content.from f.content.to h (tree_deep d (f.tag, slice f.content.from f.content.to s) q))
+      go None h = no_trees (trees_nothing s p.at p.stop within d l h)
 
-  pub rest_nothing : p.at < p.stop → head_at s p.at p.stop ≡ Nothing → rest_ok d s p end ≡ false
+  pub rest_nothing : p.at < p.stop → head_at s p.at p.stop ≡ None → rest_ok d s p end ≡ false
   rest_nothing l h = no_trees (trees_nothing s p.at p.stop within d l h)
 
-  module _ (t f e : ℕ) (h : head_at s p.at p.stop ≡ Field t f e) where
+  module _ (t f e : ℕ) (h : head_at s p.at p.stop ≡ Some (field_at t f e)) where
     pub rest_bad : tree_ok d (t, slice f e s) ≡ false → rest_ok d s p end ≡ false
     rest_bad q = no_trees (trees_bad s p.at p.stop within d t f e h q)
 
-    module _ (deep : 0 < d) (tag : t ≡ 2) (fits : e - f ≤ tree_max - 3) (u g l : ℕ) (r : head_at s f e ≡ Field u g l) (good : root_ok (u, slice g l s) ≡ true) where
+    module _ (deep : 0 < d) (tag : t ≡ 2) (fits : e - f ≤ tree_max - 3) (u g l : ℕ) (r : head_at s f e ≡ Some (field_at u g l)) (good : root_ok (u, slice g l s) ≡ true) where
       rest_tree : rest_ok d s p end ≡ labels_ok (d - 1) 0 (slice l e s) && rest_ok d s (place e p.stop p.last) end
       unfolding rest_ok
       rest_tree =
@@ -448,10 +446,10 @@ module _ (s : List ℕ) (p : Place) (d end : ℕ) (here : p.at ≡ p.stop) (behi
   pub rest_done : p.stop ≡ end → rest_ok d s p end ≡ true
   rest_done q = rest_labels d s p end here ∙ labels_end s p.stop end d p.last (omega arith) (omega arith)
 
-  pub rest_no_label : (p.stop ≡ end → ⊥) → head_at s p.stop end ≡ Nothing → rest_ok d s p end ≡ false
+  pub rest_no_label : (p.stop ≡ end → ⊥) → head_at s p.stop end ≡ None → rest_ok d s p end ≡ false
   rest_no_label n h = rest_labels d s p end here ∙ labels_nothing s p.stop end within d p.last (omega (arith, n)) h
 
-  module _ (t f e : ℕ) (h : head_at s p.stop end ≡ Field t f e) where
+  module _ (t f e : ℕ) (h : head_at s p.stop end ≡ Some (field_at t f e)) where
     pub rest_bad_label : label_ok d p.last (t, slice (p.stop + 3) e s) ≡ false → rest_ok d s p end ≡ false
     rest_bad_label q = rest_labels d s p end here ∙ labels_bad s p.stop end within d p.last t f e h q
 
@@ -519,16 +517,16 @@ module _ (s : List ℕ) (at stop tag len : ℕ) (within : stop ≤ length s) (or
 whole : (b : List ℕ) → slice 0 (length b) b ≡ b
 whole b = take-length b
 
-pub array_over : (b : List ℕ) → array_max < length b → check_of (read_array b) ≡ Overlong
+pub array_over : (b : List ℕ) → array_max < length b → check_of (read_array b) ≡ Err Overlong
 unfolding read_array tested
 array_over b l = rw (lt-leb (length b) array_max l) refl
 
-pub check_some : {A : Type 0} (x : Option A) → some? x ≡ true → check_of (well_formed x) ≡ Accepted
+pub check_some : {A : Type 0} (x : Option A) → some? x ≡ true → check_of (well_formed x) ≡ Ok tt
 unfolding some? well_formed
 check_some none h = let z : ◌≡◌ {A = ℕ} 0 1 = cc in absurd (omega arith)
 check_some (some ts) h = refl
 
-pub check_none : {A : Type 0} (x : Option A) → some? x ≡ false → check_of (well_formed x) ≡ Malformed
+pub check_none : {A : Type 0} (x : Option A) → some? x ≡ false → check_of (well_formed x) ≡ Err Malformed
 unfolding some? well_formed
 check_none none h = refl
 check_none (some ts) h = let z : ◌≡◌ {A = ℕ} 0 1 = cc in absurd (omega arith)
@@ -538,11 +536,11 @@ module _ (b : List ℕ) (fits : length b ≤ array_max) where
   unfolding read_array tested decode_array only
   checked = rw (le-leb (length b) array_max fits) refl
 
-  pub array_accepted : input_ok b ≡ true → check_of (read_array b) ≡ Accepted
+  pub array_accepted : input_ok b ≡ true → check_of (read_array b) ≡ Ok tt
   unfolding input_ok
   array_accepted k = checked ∙ check_some _ k
 
-  pub array_malformed : input_ok b ≡ false → check_of (read_array b) ≡ Malformed
+  pub array_malformed : input_ok b ≡ false → check_of (read_array b) ≡ Err Malformed
   unfolding input_ok
   array_malformed k = checked ∙ check_none _ k
 
@@ -552,10 +550,10 @@ module _ (b : List ℕ) where
   unfolding input_ok
   input_whole = ap (λ x. some? (inside (one (λ a. a) array_r) x)) (sym (whole b))
 
-  pub input_field : (t f e : ℕ) → span_at b 0 (length b) ≡ Field t f e → input_ok b ≡ array_ok depth_max (t, slice f e b)
+  pub input_field : (t f e : ℕ) → span_at b 0 (length b) ≡ Some (field_at t f e) → input_ok b ≡ array_ok depth_max (t, slice f e b)
   unfolding array_ok array_r
   input_field t f e h = input_whole ∙ inside_one b 0 (length b) (omega arith) (λ a. a) array_r t f e h
 
-  pub input_nothing : span_at b 0 (length b) ≡ Nothing → input_ok b ≡ false
+  pub input_nothing : span_at b 0 (length b) ≡ None → input_ok b ≡ false
   unfolding some?
   input_nothing h = input_whole ∙ ap some? (span_none b 0 (length b) (omega arith) (λ a. a) array_r (omega arith) h)

@@ -7,11 +7,11 @@ use borrow.Author.Tests.{le-leb, lt-leb, leb-true, leb-false, eqb-true, eqb-fals
 use Rattle.spec_trees.specs.Tree.{Root, void, boolean, integer, text, Tree, node, Trees, ε, ◌▹◌, Labels, bare, label, labels}
 use Rattle.spec_trees.specs.Size.{root_size, size, size_a, size_l, depth, depth_a, depth_l}
 use Rattle.spec_trees.specs.SizeLaws.{length_tree_fs}
-use Rattle.spec_trees.specs.Bytes.{tree_bytes, label_tag}
+use Rattle.spec_trees.specs.Bytes.{label_tag}
 use Rattle.areas.specs.Area.{Is, field_end}
 use Rattle.format.specs.Labels.{trees_at}
 use Rattle.format.specs.Stand.{trees_bytes, labels_bytes, Says}
-use Rattle.format.specs.StandLaws.{heads_least, tree_parts, labels_parts, labels_none, trees_parts, trees_none, is_alone}
+use Rattle.format.specs.StandLaws.{heads_least, tree_parts, labels_parts, labels_none, trees_parts, trees_none}
 
 leb_max : (a b n : ℕ) → leb (max a b) n ≡ (leb a n && leb b n)
 leb_max a b n = go (leb a n) (leb b n) refl refl

@@ -1,8 +1,15 @@
 -- A field's head at a place of the bytes, and the field that spans a part of them, in the terms of the code.
-use Rattle.std.specs.Prelude.{List, [], ◌∷◌, cond, ℕ, ◌+◌, ◌*◌, length, get_or, eqb, leb}
+use Rattle.std.specs.Prelude.{List, [], ◌∷◌, cond, ℕ, ◌+◌, ◌*◌, length, get_or, eqb, leb, Option, Some, None}
 use Rattle.std.proofs.Math.Seq.{slice}
-use Rattle.format.specs.declared.head.Head.{Head}
-use Rattle.format.specs.declared.head.Head.TheVariants.{Field, Nothing}
+use Rattle.areas.specs.Area.{span}
+use Rattle.format.specs.declared.head.FieldAt.{FieldAt}
+
+-- what stands at a place: a field, or none that is whole
+abbrev pub Head : Type 0
+Head = Option FieldAt
+
+abbrev pub field_at : ℕ → ℕ → ℕ → FieldAt
+field_at tag from to = record { tag = tag; content = span from to }
 
 -- the content length that the head at `at` gives
 abbrev pub len_at : List ℕ → ℕ → ℕ
@@ -14,10 +21,10 @@ low_two s at = get_or s at 0 + get_or s (at + 1) 0 * 256
 
 -- the first field of these bytes, which stand at `at`
 unfoldable pub first_field : ℕ → List ℕ → Head
-first_field at [] = Nothing
-first_field at (t ∷ []) = Nothing
-first_field at (t ∷ h ∷ []) = Nothing
-first_field at (t ∷ h ∷ l ∷ c) = cond (leb (h * 256 + l) (length c)) (Field t (at + 3) (at + 3 + (h * 256 + l))) Nothing
+first_field at [] = None
+first_field at (t ∷ []) = None
+first_field at (t ∷ h ∷ []) = None
+first_field at (t ∷ h ∷ l ∷ c) = cond (leb (h * 256 + l) (length c)) (Some (field_at t (at + 3) (at + 3 + (h * 256 + l)))) None
 
 -- the field whose head is at `at` and which ends at or before `end`
 unfoldable pub head_at : List ℕ → ℕ → ℕ → Head
@@ -25,8 +32,8 @@ head_at s at end = first_field at (slice at end s)
 
 -- a field counts only if it ends at `end`
 unfoldable pub ends_at : ℕ → Head → Head
-ends_at end Nothing = Nothing
-ends_at end (Field t f e) = cond (eqb e end) (Field t f e) Nothing
+ends_at end None = None
+ends_at end (Some f) = cond (eqb f.content.to end) (Some f) None
 
 -- the field that spans the bytes from `at` to `end`
 unfoldable pub span_at : List ℕ → ℕ → ℕ → Head

@@ -1,6 +1,6 @@
 -- A head at a place of the bytes, and the fields that are read there: what a loop over fields needs. After these laws
 -- nobody looks at length bytes.
-use Rattle.std.specs.Prelude.{◌≡◌, Bool, cond, ℕ, zero, suc, ◌+◌, ◌-◌, ◌*◌, ◌≤◌, ◌<◌, take, drop, get_or, leb}
+use Rattle.std.specs.Prelude.{◌≡◌, Bool, cond, ℕ, zero, suc, ◌+◌, ◌-◌, ◌*◌, ◌≤◌, ◌<◌, take, drop, get_or, leb, Some, None}
 use Rattle.std.proofs.Math.Path.{refl, ap}
 use Rattle.std.proofs.Common.{sym, ap₂, ◌∙◌, not-suc-le-zero, arith, add-one, length-drop, drop-drop, take-take, take-add, drop_at, length-take-le}
 use mathlib.Core.List.{List, [], ◌∷◌}
@@ -15,9 +15,8 @@ use Rattle.spec_trees.specs.Options.{◌>>=◌, only, some?}
 use Rattle.spec_trees.specs.Readers.{split, fields, inside, one, Reader}
 use Rattle.spec_trees.specs.Bytes
 use Rattle.spec_trees.specs.OptionLaws.{leb_yes, leb_no}
-use Rattle.format.specs.declared.head.Head.{Head}
-use Rattle.format.specs.declared.head.Head.TheVariants.{Field, Nothing}
-use Rattle.format.specs.Head.{len_at, first_field, head_at, ends_at, span_at}
+use Rattle.format.specs.declared.head.FieldAt.{FieldAt}
+use Rattle.format.specs.Head.{Head, field_at, len_at, first_field, head_at, ends_at, span_at}
 
 -- ---- fields off the front of a list
 -- any fuel not below the length will do
@@ -52,23 +51,29 @@ record First (at : ℕ) (b : List ℕ) (t f e : ℕ) : Type 0 where
   reads : fields b ≡ map (λ fs. (t, take m (drop 3 b)) ∷ fs) (fields (drop m (drop 3 b)))
 
 -- by what the test of the length gave
+-- two fields that are the same, part by part
+same_field : {t f e u g i : ℕ} → Some (field_at t f e) ≡ Some (field_at u g i) → (t ≡ u) × (f ≡ g) × (e ≡ i)
+same_field {t} {f} {e} {u} {g} {i} h =
+    let q : field_at t f e ≡ field_at u g i = cc in
+    (ap (λ (x : FieldAt). x.tag) q, ap (λ (x : FieldAt). x.content.from) q, ap (λ (x : FieldAt). x.content.to) q)
+
 first_pick : (at t x y : ℕ) (c : List ℕ) (u f e : ℕ) (b : Bool) → leb (x * 256 + y) (length c) ≡ b
-    → cond b (Field t (at + 3) (at + 3 + (x * 256 + y))) Nothing ≡ Field u f e → First at (t ∷ x ∷ y ∷ c) u f e
+    → cond b (Some (field_at t (at + 3) (at + 3 + (x * 256 + y)))) None ≡ Some (field_at u f e) → First at (t ∷ x ∷ y ∷ c) u f e
 unfolding only
 first_pick at t x y c u f e true q h =
-    let i : t ≡ u = cc in
+    let i = same_field h in
     let n : x * 256 + y ≤ length c = leb-true (x * 256 + y) (length c) q in
     record {
       m = x * 256 + y;
-      tag = i;
-      start = cc;
-      stop = cc;
+      tag = i.0;
+      start = sym i.1;
+      stop = sym i.2;
       room = omega arith;
-      reads = fields_cons t x y c ∙ rw (q, i) refl;
+      reads = fields_cons t x y c ∙ rw (q, i.0) refl;
     }
 first_pick at t x y c u f e false q h = let z : ◌≡◌ {A = ℕ} 0 1 = cc in absurd (omega arith)
 
-first_found : (at : ℕ) (b : List ℕ) (t f e : ℕ) → first_field at b ≡ Field t f e → First at b t f e
+first_found : (at : ℕ) (b : List ℕ) (t f e : ℕ) → first_field at b ≡ Some (field_at t f e) → First at b t f e
 unfolding first_field
 first_found at [] t f e h = let z : ◌≡◌ {A = ℕ} 0 1 = cc in absurd (omega arith)
 first_found at (a ∷ []) t f e h = let z : ◌≡◌ {A = ℕ} 0 1 = cc in absurd (omega arith)
@@ -76,19 +81,19 @@ first_found at (a ∷ x ∷ []) t f e h = let z : ◌≡◌ {A = ℕ} 0 1 = cc i
 first_found at (a ∷ x ∷ y ∷ c) t f e h = first_pick at a x y c t f e (leb (x * 256 + y) (length c)) refl h
 
 nothing_pick : (t x y : ℕ) (c : List ℕ) (f e : ℕ) (b : Bool) → leb (x * 256 + y) (length c) ≡ b
-    → cond b (Field t f e) Nothing ≡ Nothing → fields (t ∷ x ∷ y ∷ c) ≡ none
+    → cond b (Some (field_at t f e)) None ≡ None → fields (t ∷ x ∷ y ∷ c) ≡ none
 unfolding only
 nothing_pick t x y c f e true q h = let z : ◌≡◌ {A = ℕ} 0 1 = cc in absurd (omega arith)
 nothing_pick t x y c f e false q h = fields_cons t x y c ∙ rw q refl
 
-first_nothing : (at : ℕ) (b : List ℕ) → 0 < length b → first_field at b ≡ Nothing → fields b ≡ none
+first_nothing : (at : ℕ) (b : List ℕ) → 0 < length b → first_field at b ≡ None → fields b ≡ none
 unfolding first_field fields split
 first_nothing at [] l h = absurd (omega arith)
 first_nothing at (a ∷ []) l h = refl
 first_nothing at (a ∷ x ∷ []) l h = refl
 first_nothing at (a ∷ x ∷ y ∷ c) l h = nothing_pick a x y c (at + 3) (at + 3 + (x * 256 + y)) (leb (x * 256 + y) (length c)) refl h
 
-first_short : (at : ℕ) (b : List ℕ) → length b < 3 → first_field at b ≡ Nothing
+first_short : (at : ℕ) (b : List ℕ) → length b < 3 → first_field at b ≡ None
 unfolding first_field
 first_short at [] l = refl
 first_short at (a ∷ []) l = refl
@@ -109,16 +114,16 @@ module _ (s : List ℕ) (at end : ℕ) (inside : end ≤ length s) where
   three_at h = rw (slice-cons at end s 0 (omega arith) inside, slice-cons (suc at) end s 0 (omega arith) inside, slice-cons (suc (suc at)) end s 0 (omega arith) inside, add-one, add-two, add-three) refl
 
   -- ---- the cases in which the code makes a head
-  pub head_short : end - at < 3 → head_at s at end ≡ Nothing
+  pub head_short : end - at < 3 → head_at s at end ≡ None
   unfolding head_at
   head_short h = first_short at (slice at end s) (omega (arith, length-slice at end s inside))
 
   module _ (n : ℕ) (three : 3 ≤ end - at) (e : n ≡ len_at s at) where
-    pub head_over : end - (at + 3) < n → head_at s at end ≡ Nothing
+    pub head_over : end - (at + 3) < n → head_at s at end ≡ None
     unfolding head_at first_field
     head_over h = rw (three_at (omega arith), leb_no (len_at s at) (length (slice (at + 3) end s)) (omega (arith, length-slice (at + 3) end s inside))) refl
 
-    pub head_field : n ≤ end - (at + 3) → head_at s at end ≡ Field (get_or s at 0) (at + 3) (at + 3 + n)
+    pub head_field : n ≤ end - (at + 3) → head_at s at end ≡ Some (field_at (get_or s at 0) (at + 3) (at + 3 + n))
     unfolding head_at first_field
     head_field h = rw (three_at (omega arith), leb_yes (len_at s at) (length (slice (at + 3) end s)) (omega (arith, length-slice (at + 3) end s inside)), e) refl
 
@@ -153,11 +158,11 @@ module _ (s : List ℕ) (at end : ℕ) (inside : end ≤ length s) where
         reads = q.reads ∙ ap₂ (λ c o. map (λ fs. (t, c) ∷ fs) (fields o)) (content s at end f q.m e inside q.start q.stop l) (behind s at end f q.m e inside q.start q.stop l);
       }
 
-  pub head_found : (t f e : ℕ) → head_at s at end ≡ Field t f e → FieldFound s at end t f e
+  pub head_found : (t f e : ℕ) → head_at s at end ≡ Some (field_at t f e) → FieldFound s at end t f e
   unfolding head_at
   head_found t f e h = found t f e (first_found at (slice at end s) t f e h)
 
-  pub fields_nothing : at < end → head_at s at end ≡ Nothing → fields (slice at end s) ≡ none
+  pub fields_nothing : at < end → head_at s at end ≡ None → fields (slice at end s) ≡ none
   unfolding head_at
   fields_nothing l h = first_nothing at (slice at end s) (omega (arith, length-slice at end s inside)) h
 
@@ -168,28 +173,28 @@ fields_end s at = rw (slice_empty at s) refl
 -- ---- the field that spans a part
 -- the cases in which the code makes it
 module _ (s : List ℕ) (at end : ℕ) where
-  pub span_field : (t f e : ℕ) → head_at s at end ≡ Field t f e → e ≡ end → span_at s at end ≡ Field t f e
+  pub span_field : (t f e : ℕ) → head_at s at end ≡ Some (field_at t f e) → e ≡ end → span_at s at end ≡ Some (field_at t f e)
   unfolding span_at ends_at
   span_field t f e h q = ap (ends_at end) h ∙ rw (eq-eqb e end q) refl
 
-  pub span_trailing : (t f e : ℕ) → head_at s at end ≡ Field t f e → (e ≡ end → ⊥) → span_at s at end ≡ Nothing
+  pub span_trailing : (t f e : ℕ) → head_at s at end ≡ Some (field_at t f e) → (e ≡ end → ⊥) → span_at s at end ≡ None
   unfolding span_at ends_at
   span_trailing t f e h q = ap (ends_at end) h ∙ rw (ne_eqb e end q) refl
 
-  pub span_nothing : head_at s at end ≡ Nothing → span_at s at end ≡ Nothing
+  pub span_nothing : head_at s at end ≡ None → span_at s at end ≡ None
   unfolding span_at ends_at
   span_nothing h = ap (ends_at end) h
 
-ends_pick : (t f e u g i end : ℕ) (b : Bool) → eqb e end ≡ b → cond b (Field t f e) Nothing ≡ Field u g i → (Field t f e ≡ Field u g i) × (i ≡ end)
-ends_pick t f e u g i end true q h = let x : e ≡ i = cc in (h, sym x ∙ eqb-true e end q)
+ends_pick : (t f e u g i end : ℕ) (b : Bool) → eqb e end ≡ b → cond b (Some (field_at t f e)) None ≡ Some (field_at u g i) → (Some (field_at t f e) ≡ Some (field_at u g i)) × (i ≡ end)
+ends_pick t f e u g i end true q h = (h, sym (same_field h).2 ∙ eqb-true e end q)
 ends_pick t f e u g i end false q h = let z : ◌≡◌ {A = ℕ} 0 1 = cc in absurd (omega arith)
 
-ends_field : (h : Head) (end t f e : ℕ) → ends_at end h ≡ Field t f e → (h ≡ Field t f e) × (e ≡ end)
+ends_field : (h : Head) (end t f e : ℕ) → ends_at end h ≡ Some (field_at t f e) → (h ≡ Some (field_at t f e)) × (e ≡ end)
 unfolding ends_at
-ends_field Nothing end t f e q = let z : ◌≡◌ {A = ℕ} 0 1 = cc in absurd (omega arith)
-ends_field (Field u g i) end t f e q = ends_pick u g i t f e end (eqb i end) refl q
+ends_field None end t f e q = let z : ◌≡◌ {A = ℕ} 0 1 = cc in absurd (omega arith)
+ends_field (Some h) end t f e q = ends_pick h.tag h.content.from h.content.to t f e end (eqb h.content.to end) refl q
 
-ends_other : (t f e end : ℕ) (b : Bool) → eqb e end ≡ b → cond b (Field t f e) Nothing ≡ Nothing → e ≡ end → ⊥
+ends_other : (t f e end : ℕ) (b : Bool) → eqb e end ≡ b → cond b (Some (field_at t f e)) None ≡ None → e ≡ end → ⊥
 ends_other t f e end true q h x = let z : ◌≡◌ {A = ℕ} 0 1 = cc in omega arith
 ends_other t f e end false q h x = eqb-false e end q x
 
@@ -223,7 +228,7 @@ pub record Spanned (s : List ℕ) (at end t f e : ℕ) : Type 0 where
   pub reads : fields (slice at end s) ≡ some ((t, slice f e s) ∷ [])
 
 module _ (s : List ℕ) (at end : ℕ) (within : end ≤ length s) where
-  pub span_found : (t f e : ℕ) → span_at s at end ≡ Field t f e → Spanned s at end t f e
+  pub span_found : (t f e : ℕ) → span_at s at end ≡ Some (field_at t f e) → Spanned s at end t f e
   unfolding span_at
   span_found t f e h =
       let (q, x) = ends_field (head_at s at end) end t f e h in
@@ -237,16 +242,19 @@ module _ (s : List ℕ) (at end : ℕ) (within : end ≤ length s) where
       }
 
   -- no field spans the part, so it is not just one field
-  not_one : {A D : Type 0} (g : A → D) (r : Reader A) (h : Head) → at ≤ end → head_at s at end ≡ h → ends_at end h ≡ Nothing → inside (one g r) (slice at end s) ≡ none
+  not_one : {A D : Type 0} (g : A → D) (r : Reader A) (h : Head) → at ≤ end → head_at s at end ≡ h → ends_at end h ≡ None → inside (one g r) (slice at end s) ≡ none
   unfolding inside ends_at ◌>>=◌ one
-  not_one g r (Field t f e) l h q =
+  not_one g r (Some field) l h q =
+      let t = field.tag in
+      let f = field.content.from in
+      let e = field.content.to in
       let d = head_found s at end within t f e h in
       let x : e ≡ end → ⊥ = ends_other t f e end (eqb e end) refl q in
       let m = d.stop in
       let n : e < end = omega (arith, x) in
       let y : 0 < length (slice e end s) = rw (length-slice e end s within) (omega arith) in
       ap (λ o. o >>= one g r) d.reads ∙ two_fields g r (t, slice f e s) (fields (slice e end s)) (not_no_field (slice e end s) y)
-  not_one g r Nothing l h q = go (eqb at end) refl
+  not_one g r None l h q = go (eqb at end) refl
     where
       go : (b : Bool) → eqb at end ≡ b → (fields (slice at end s) >>= one g r) ≡ none
       go true x =
@@ -256,7 +264,7 @@ module _ (s : List ℕ) (at end : ℕ) (within : end ≤ length s) where
           let n : at < end = omega (arith, eqb-false at end x) in
           ap (λ o. o >>= one g r) (fields_nothing s at end within n h)
 
-  pub span_none : {A D : Type 0} (g : A → D) (r : Reader A) → at ≤ end → span_at s at end ≡ Nothing → inside (one g r) (slice at end s) ≡ none
+  pub span_none : {A D : Type 0} (g : A → D) (r : Reader A) → at ≤ end → span_at s at end ≡ None → inside (one g r) (slice at end s) ≡ none
   unfolding span_at
   span_none g r l h = not_one g r (head_at s at end) l refl h
 
@@ -279,7 +287,7 @@ bad_field p f none h = refl
 bad_field p f (some fs) h = h fs
 
 module _ (s : List ℕ) (at end : ℕ) (within : end ≤ length s) where
-  module _ (t f e : ℕ) (h : head_at s at end ≡ Field t f e) where
+  module _ (t f e : ℕ) (h : head_at s at end ≡ Some (field_at t f e)) where
     -- the first field is good: what follows decides
     pub inside_next : {A B : Type 0} (p : List Bytes.Field → Option A) (q : List Bytes.Field → Option B)
         → ((fs : List Bytes.Field) → some? (p ((t, slice f e s) ∷ fs)) ≡ some? (q fs)) → some? (inside p (slice at end s)) ≡ some? (inside q (slice e end s))
@@ -291,12 +299,12 @@ module _ (s : List ℕ) (at end : ℕ) (within : end ≤ length s) where
     unfolding inside
     inside_bad p g = ap (λ o. some? (o >>= p)) (head_found s at end within t f e h).reads ∙ bad_field p (t, slice f e s) (fields (slice e end s)) g
 
-  pub inside_nothing : {A : Type 0} (p : List Bytes.Field → Option A) → at < end → head_at s at end ≡ Nothing → some? (inside p (slice at end s)) ≡ false
+  pub inside_nothing : {A : Type 0} (p : List Bytes.Field → Option A) → at < end → head_at s at end ≡ None → some? (inside p (slice at end s)) ≡ false
   unfolding inside ◌>>=◌ some?
   inside_nothing p l h = ap (λ o. some? (o >>= p)) (fields_nothing s at end within l h)
 
   -- of one field: what the spanning field comes to
-  pub inside_one : {A D : Type 0} (g : A → D) (r : Reader A) (t f e : ℕ) → span_at s at end ≡ Field t f e
+  pub inside_one : {A D : Type 0} (g : A → D) (r : Reader A) (t f e : ℕ) → span_at s at end ≡ Some (field_at t f e)
       → some? (inside (one g r) (slice at end s)) ≡ some? (r (t, slice f e s))
   unfolding inside ◌>>=◌ one
   inside_one g r t f e h = ap (λ o. some? (o >>= one g r)) (span_found s at end within t f e h).reads ∙ some_map g (r (t, slice f e s))
@@ -307,7 +315,7 @@ inside_end p s at = ap (λ o. some? (o >>= p)) (fields_end s at)
 
 -- no field at all, where there must be one
 pub inside_none : {A : Type 0} (p : List Bytes.Field → Option A) (s : List ℕ) (at end : ℕ) → end ≤ length s → at ≤ end → some? (p []) ≡ false
-    → head_at s at end ≡ Nothing → some? (inside p (slice at end s)) ≡ false
+    → head_at s at end ≡ None → some? (inside p (slice at end s)) ≡ false
 inside_none p s at end within l k h = go (eqb at end) refl
   where
     go : (b : Bool) → eqb at end ≡ b → some? (inside p (slice at end s)) ≡ false

@@ -1,11 +1,9 @@
 -- Laws of heads stored before a content, and of those of a label's entry.
-use Rattle.std.specs.Prelude.{◌≡◌, List, [], ◌∷◌, ◌++◌, ℕ, ◌+◌, ◌-◌, ◌≤◌, ◌<◌, length, take, set}
+use Rattle.std.specs.Prelude.{◌≡◌, List, [], ◌∷◌, ◌++◌, ℕ, ◌+◌, ◌-◌, ◌≤◌, ◌<◌, length, take, set, Ok, Err}
 use Rattle.std.proofs.Math.Path.{refl}
 use Rattle.std.proofs.Common.{sym, ap, subst, ◌∙◌, add-zero, arith, take-take}
-use Rattle.areas.specs.declared.area.Out.{Out}
-use Rattle.areas.specs.declared.area.Out.TheVariants.{At, TooLarge}
 use Rattle.spec_trees.specs.Bytes.{field_bytes, label_tag, label_heads, label_of}
-use Rattle.areas.specs.Area.{Wrote, head_bytes}
+use Rattle.areas.specs.Area.{Wrote, head_bytes, Out, too_large}
 use Rattle.areas.specs.AreaLaws.{failed, finish_at, wrote_none, wrote_before, byte_before}
 use Rattle.format.specs.Stand.{entry_of, Headed}
 
@@ -27,8 +25,8 @@ headed_seq {f} {g} {n} {m} {k} {w} {v} {x} {d} {i} {r} {q} {o} a b h j = record 
 }
 
 -- what did not fit does not fit with heads before it
-pub headed_large : (f : List ℕ → List ℕ) (n : ℕ) {w : List ℕ} {d : ℕ} {r : Out} → ((c : List ℕ) → length (f c) ≡ n + length c) → r ≡ TooLarge
-    → Headed f n w w d r TooLarge
+pub headed_large : (f : List ℕ → List ℕ) (n : ℕ) {w : List ℕ} {d : ℕ} {r : Out} → ((c : List ℕ) → length (f c) ≡ n + length c) → r ≡ Err too_large
+    → Headed f n w w d r (Err too_large)
 headed_large f n {w} {d} l q = record {
   same = sym q;
   wrote = λ u stop c b h.
@@ -41,8 +39,8 @@ headed_large f n {w} {d} l q = record {
 }
 
 -- bytes that do not depend on the content
-pub headed_bytes : (hs : List ℕ) (n : ℕ) {w x : List ℕ} {d e : ℕ} {r : Out} → length hs ≡ n → r ≡ At e → Wrote w x d (d + n) hs (At (d + n))
-    → Headed (λ c. hs ++ c) n w x d r (At e)
+pub headed_bytes : (hs : List ℕ) (n : ℕ) {w x : List ℕ} {d e : ℕ} {r : Out} → length hs ≡ n → r ≡ Ok e → Wrote w x d (d + n) hs (Ok (d + n))
+    → Headed (λ c. hs ++ c) n w x d r (Ok e)
 headed_bytes hs n {w} {x} {d} {e} l q k = record {
   same = sym q;
   wrote = λ u stop c b h.
@@ -51,26 +49,26 @@ headed_bytes hs n {w} {x} {d} {e} l q k = record {
 }
 
 -- a field's head
-pub headed_field : (tag : ℕ) {w x : List ℕ} {d e : ℕ} {r : Out} → d + 3 ≤ e → e ≤ length w → r ≡ At e
-    → Wrote w x d (d + 3) (head_bytes tag (e - (d + 3))) (At (d + 3)) → Headed (λ c. field_bytes (tag, c)) 3 w x d r (At e)
+pub headed_field : (tag : ℕ) {w x : List ℕ} {d e : ℕ} {r : Out} → d + 3 ≤ e → e ≤ length w → r ≡ Ok e
+    → Wrote w x d (d + 3) (head_bytes tag (e - (d + 3))) (Ok (d + 3)) → Headed (λ c. field_bytes (tag, c)) 3 w x d r (Ok e)
 headed_field tag {w} {x} {d} a b q k = record {
   same = sym q;
   wrote = λ u stop c m h. finish_at w d tag a b q k u stop c m h;
 }
 
 -- one byte
-pub byte_wrote : (w : List ℕ) (d x : ℕ) → d < length w → Wrote w (set w d x) d (d + 1) (x ∷ []) (At (d + 1))
+pub byte_wrote : (w : List ℕ) (d x : ℕ) → d < length w → Wrote w (set w d x) d (d + 1) (x ∷ []) (Ok (d + 1))
 byte_wrote w d x b = byte_before x b (omega arith) (wrote_none w (d + 1) (d + 1) (omega arith))
 
 -- ---- a label with its array
-module _ {w w1 w2 w3 : List ℕ} {d k e : ℕ} {r : Out} (b : d + label_heads k ≤ e) (l : e ≤ length w) (l2 : e ≤ length w2) (q : r ≡ At e)
-    (h1 : Wrote w w1 (d + 4) (d + 4 + 3) (head_bytes 1 (e - (d + 4 + 3))) (At (d + 4 + 3)))
-    (h2 : Wrote w1 w2 (d + 3) (d + 3 + 1) (k ∷ []) (At (d + 3 + 1)))
-    (h3 : Wrote w2 w3 d (d + 3) (head_bytes label_tag (e - (d + 3))) (At (d + 3))) where
-  pub headed_entry : Headed (entry_of k) (label_heads k) w w3 d r (At e)
+module _ {w w1 w2 w3 : List ℕ} {d k e : ℕ} {r : Out} (b : d + label_heads k ≤ e) (l : e ≤ length w) (l2 : e ≤ length w2) (q : r ≡ Ok e)
+    (h1 : Wrote w w1 (d + 4) (d + 4 + 3) (head_bytes 1 (e - (d + 4 + 3))) (Ok (d + 4 + 3)))
+    (h2 : Wrote w1 w2 (d + 3) (d + 3 + 1) (k ∷ []) (Ok (d + 3 + 1)))
+    (h3 : Wrote w2 w3 d (d + 3) (head_bytes label_tag (e - (d + 3))) (Ok (d + 3))) where
+  pub headed_entry : Headed (entry_of k) (label_heads k) w w3 d r (Ok e)
   unfolding label_heads label_of
   headed_entry =
-      let a1 : Headed (λ c. field_bytes (1, c)) 3 w w1 (d + 4) r (At e) = headed_field 1 (omega arith) l q h1 in
-      let a2 : Headed (λ c. k ∷ c) 1 w1 w2 (d + 3) (At e) (At e) = headed_bytes (k ∷ []) 1 refl refl h2 in
-      let a3 : Headed (λ c. field_bytes (label_tag, c)) 3 w2 w3 d (At e) (At e) = headed_field label_tag (omega arith) l2 refl h3 in
+      let a1 : Headed (λ c. field_bytes (1, c)) 3 w w1 (d + 4) r (Ok e) = headed_field 1 (omega arith) l q h1 in
+      let a2 : Headed (λ c. k ∷ c) 1 w1 w2 (d + 3) (Ok e) (Ok e) = headed_bytes (k ∷ []) 1 refl refl h2 in
+      let a3 : Headed (λ c. field_bytes (label_tag, c)) 3 w2 w3 d (Ok e) (Ok e) = headed_field label_tag (omega arith) l2 refl h3 in
       headed_seq {n = 4} refl refl (headed_seq {n = 3} (omega arith) refl a1 a2) a3

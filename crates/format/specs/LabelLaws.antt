@@ -1,22 +1,20 @@
 -- A search among the labels that stand in an area, label by label, and what its answer says.
-use Rattle.std.specs.Prelude.{◌≡◌, List, [], ◌++◌, ℕ, ◌+◌, ◌-◌, ◌≤◌, ◌<◌, length}
+use Rattle.std.specs.Prelude.{◌≡◌, List, [], ◌++◌, ℕ, ◌+◌, ◌-◌, ◌≤◌, ◌<◌, length, Some, None}
 use Rattle.std.proofs.Common.{sym, ap, subst, ◌∙◌, append_assoc, arith}
 use Rattle.std.proofs.Math.Seq.{slice, slice_empty}
-use Rattle.format.specs.declared.labels.Found.{Found}
-use Rattle.format.specs.declared.labels.Found.TheVariants.{Part, Missing}
-use Rattle.spec_trees.specs.Tree.{Trees, Labels, label, list, find, put}
+use Rattle.spec_trees.specs.Tree.{Labels, label, list, find, put}
 use Rattle.spec_trees.specs.Within.{OkL}
 use Rattle.spec_trees.specs.FindLaws.{find_first, find_later, put_first, put_later, find_above}
 use Rattle.areas.specs.declared.span.Span.{Span}
 use Rattle.areas.specs.Area.{Is, span, field_end}
 use Rattle.areas.specs.AreaLaws.{is_join}
 use Rattle.spec_trees.specs.Bytes.{label_heads}
-use Rattle.format.specs.Labels.{label_at, trees_at}
+use Rattle.format.specs.Labels.{label_at, trees_at, Found}
 use Rattle.format.specs.Stand.{trees_bytes, labels_bytes, entry_bytes, Holds, EntryIs, EntryFound, Finds}
 use Rattle.format.specs.StandLaws.{labels_first, labels_parts, labels_none}
 
 -- ---- answers
-found_part : {s : List ℕ} {around : Span} {k : ℕ} {ls : Labels} {at : Span} → EntryIs s around k ls at → EntryFound s around k ls (Part at)
+found_part : {s : List ℕ} {around : Span} {k : ℕ} {ls : Labels} {at : Span} → EntryIs s around k ls at → EntryFound s around k ls (Some at)
 found_part {s} {around} {k} {ls} {at} h = record {
   part = λ a q. let y : at ≡ a = cc in subst (λ n. EntryIs s around k ls n) y h;
   missing = λ q. let z : ◌≡◌ {A = ℕ} 0 1 = cc in absurd (omega arith);
@@ -26,7 +24,7 @@ found_part {s} {around} {k} {ls} {at} h = record {
 is_none : (w : List ℕ) (p e : ℕ) → p ≡ e → p ≤ length w → Is w p e []
 is_none w p e z l = record { lies = ap (λ n. slice n e w) z ∙ slice_empty e w; ends = omega arith; inside = omega arith }
 
-pub finds_none : (s : List ℕ) (p e k : ℕ) → p ≡ e → Finds s (span p e) k Missing
+pub finds_none : (s : List ℕ) (p e k : ℕ) → p ≡ e → Finds s (span p e) k None
 unfolding find
 finds_none s p e k q ls h = record {
   part = λ a q. let z : ◌≡◌ {A = ℕ} 0 1 = cc in absurd (omega arith);
@@ -34,7 +32,7 @@ finds_none s p e k q ls h = record {
 }
 
 module _ (s : List ℕ) (p m e k : ℕ) (n : p ≡ e → ⊥) (g : m ≡ field_end s p) where
-  pub finds_here : {f : ℕ} → label_at s p ≡ k → f ≡ p + label_heads k → Finds s (span p e) k (Part (span f m))
+  pub finds_here : {f : ℕ} → label_at s p ≡ k → f ≡ p + label_heads k → Finds s (span p e) k (Some (span f m))
   finds_here {f} q u ls h =
       let a = labels_parts ls g n h in
       let z : k ≡ a.key = sym q ∙ a.entry.label_is in
@@ -83,5 +81,5 @@ module _ (s : List ℕ) (p m e k : ℕ) (n : p ≡ e → ⊥) (g : m ≡ field_e
       }
 
 -- ---- the trees of the array that was found stand there
-pub holds_found : {s : List ℕ} {p e : ℕ} (k : ℕ) {r : Found} {f t : ℕ} → Holds labels_bytes s p e → Finds s (span p e) k r → r ≡ Part (span f t) → Holds trees_bytes s f t
+pub holds_found : {s : List ℕ} {p e : ℕ} (k : ℕ) {r : Found} {f t : ℕ} → Holds labels_bytes s p e → Finds s (span p e) k r → r ≡ Some (span f t) → Holds trees_bytes s f t
 holds_found k {r} {f} {t} h g q = let a = (g h.value h.value_is).part (span f t) q in record { value = a.array; value_is = a.array_is }

@@ -1,5 +1,6 @@
 -- Definitions.
 pub mod Stand
+pub mod Fields
 pub mod Named
 pub mod Labels
 pub mod Head
@@ -7,6 +8,7 @@ pub mod View
 pub mod Check
 -- Laws.
 pub mod StandLaws
+pub mod FieldsLaws
 pub mod LabelLaws
 pub mod HeadedLaws
 pub mod DepthLaws

@@ -1,15 +1,12 @@
 -- Trees, arrays and labels that stand in an area, and what readers of them say.
-use Rattle.std.specs.Prelude.{◌≡◌, List, ◌++◌, ℕ, ◌+◌, ◌-◌, ◌≤◌, length}
+use Rattle.std.specs.Prelude.{◌≡◌, List, ◌++◌, ℕ, ◌+◌, ◌-◌, ◌≤◌, length, Some, None, Ok}
 use Rattle.std.proofs.Math.Option.{Option, none, some}
-use Rattle.areas.specs.declared.area.Out.{Out}
-use Rattle.areas.specs.declared.area.Out.TheVariants.{At}
-use Rattle.format.specs.declared.labels.Found.{Found}
-use Rattle.format.specs.declared.labels.Found.TheVariants.{Part, Missing}
 use Rattle.spec_trees.specs.Tree.{Root, Tree, Trees, Labels, list, find, put}
 use Rattle.spec_trees.specs.Bytes.{field_bytes, bytes, root_f, tree_fs, label_fs, label_heads, label_of}
 use Rattle.spec_trees.specs.Within.{OkL}
 use Rattle.areas.specs.declared.span.Span.{Span}
-use Rattle.areas.specs.Area.{Is, IsAt, Wrote}
+use Rattle.areas.specs.Area.{Is, IsAt, Wrote, Out}
+use Rattle.format.specs.Labels.{Found}
 
 -- ---- the bytes of a tree's parts: its root, its labels, one label with its array, the trees of an array
 abbrev pub root_bytes : Root → List ℕ
@@ -49,8 +46,8 @@ pub record ArrayIs (s : List ℕ) (around : Span) (x : Option (List Tree)) (at :
 
 -- what an answer says of x, which may be an array
 pub record FoundIs (s : List ℕ) (around : Span) (x : Option (List Tree)) (r : Found) : Type 0 where
-  pub part : (at : Span) → r ≡ Part at → ArrayIs s around x at
-  pub missing : r ≡ Missing → x ≡ none
+  pub part : (at : Span) → r ≡ Some at → ArrayIs s around x at
+  pub missing : r ≡ None → x ≡ none
 
 -- the entry of the label k among labels, with its array at a place; before it and behind it stand the other labels, which
 -- stay when another array is put in its place, where labels rise
@@ -67,8 +64,8 @@ pub record EntryIs (s : List ℕ) (around : Span) (k : ℕ) (ls : Labels) (at : 
   pub put_is : (m : ℕ) → OkL ls m → (a : Trees) → labels_bytes (put k a ls) ≡ front ++ (entry_bytes k a ++ back)
 
 pub record EntryFound (s : List ℕ) (around : Span) (k : ℕ) (ls : Labels) (r : Found) : Type 0 where
-  pub part : (at : Span) → r ≡ Part at → EntryIs s around k ls at
-  pub missing : r ≡ Missing → find k ls ≡ none
+  pub part : (at : Span) → r ≡ Some at → EntryIs s around k ls at
+  pub missing : r ≡ None → find k ls ≡ none
 
 -- the answer to a search for the label k, whatever labels stand there
 abbrev pub Finds : (s : List ℕ) (around : Span) (k : ℕ) → Found → Type 0
@@ -78,7 +75,7 @@ Finds s around k r = (ls : Labels) → IsAt s around (labels_bytes ls) → Entry
 
 -- a content that was written from d on with the answer r ends in w
 abbrev pub Behind : List ℕ → ℕ → Out → Type 0
-Behind w d r = (e : ℕ) → r ≡ At e → (d ≤ e) × (e ≤ length w)
+Behind w d r = (e : ℕ) → r ≡ Ok e → (d ≤ e) × (e ≤ length w)
 
 -- w became v: n bytes of heads were stored at d, so that whatever content c was written behind them, f of it is written
 pub record Headed (f : List ℕ → List ℕ) (n : ℕ) (w v : List ℕ) (d : ℕ) (r q : Out) : Type 0 where

@@ -11,13 +11,13 @@ use Rattle.format.specs.Labels.{label_at, trees_at}
 use Rattle.format.specs.Stand.{root_bytes, labels_bytes, trees_bytes, entry_of, entry_bytes, Holds}
 
 -- ---- a field, and the fields behind it
-record FieldParts (s : List ℕ) (p m e : ℕ) (f : Field) (fs : List Field) : Type 0 where
+pub record FieldParts (s : List ℕ) (p m e : ℕ) (f : Field) (fs : List Field) : Type 0 where
   pub first_is : Is s p m (field_bytes f)
   pub rest_is : Is s m e (bytes fs)
   pub after : p + 3 ≤ m
   pub within : m ≤ e
 
-field_parts : {s : List ℕ} {p m e : ℕ} (f : Field) (fs : List Field) → m ≡ field_end s p → Is s p e (bytes (f ∷ fs)) → FieldParts s p m e f fs
+pub field_parts : {s : List ℕ} {p m e : ℕ} (f : Field) (fs : List Field) → m ≡ field_end s p → Is s p e (bytes (f ∷ fs)) → FieldParts s p m e f fs
 unfolding bytes
 field_parts f fs g h =
     let q = g ∙ is_field_end f (bytes fs) h in

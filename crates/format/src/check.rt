@@ -9,16 +9,14 @@ ghost use Rattle.std.proofs.Math.Seq.{slice};
 ghost use Rattle.format.specs.Check.{root_ok, array_ok, input_ok, check_of, place, rest_ok, Stepped, Passes, Enters, BareAt};
 ghost use Rattle.spec_trees.specs.Decode.{read_array};
 
-use crate::head::Head;
 use crate::labels::{TAG, label_at};
 use crate::limits::Limits;
 use crate::{head, view};
 use areas::span::Span;
 
-/// What the check of a lent piece, an array or a query, comes to.
-#[derive(Clone, Copy)]
-pub enum Check {
-    Accepted,
+/// Why a lent piece, an array or a query, is refused.
+#[derive(Clone, Copy, Debug, PartialEq, Eq)]
+pub enum Fault {
     Overlong,
     Malformed,
 }
@@ -130,18 +128,10 @@ fn take_step(area: &[u8], p: Place, end: usize, left: usize) -> Step
         return Step::Bad;
     }
     if is_bare(area, at, stop, 5, 8) {
-        return Step::On(Place {
-            at: at + 14,
-            stop,
-            last: p.last,
-        });
+        return Step::On(Place { at: at + 14, ..p });
     }
     if is_bare(area, at, stop, 3, 0) {
-        return Step::On(Place {
-            at: at + 6,
-            stop,
-            last: p.last,
-        });
+        return Step::On(Place { at: at + 6, ..p });
     }
     pass_tree(area, p)
 }
@@ -166,41 +156,25 @@ fn pass_tree(area: &[u8], p: Place) -> Step
     requires { (p.at < p.stop) × (p.stop ≤ length area.now) }
     ensures { Passes area.now p result }
 {
-    let h = head::head_at(area, p.at, p.stop);
-    let Head::Field { tag, from, to } = h else {
+    let Some(tree) = head::head_at(area, p.at, p.stop) else {
         return Step::Bad;
     };
-    if tag != 2 {
+    if tree.tag != 2 {
         return Step::Bad;
     }
+    let Span { from, to } = tree.content;
     if Limits::TREE - 3 < to - from {
         return Step::Bad;
     }
-    let g = head::head_at(area, from, to);
-    let Head::Field {
-        tag: root,
-        from: content,
-        to: labels,
-    } = g
-    else {
+    let Some(root) = head::head_at(area, from, to) else {
         return Step::Bad;
     };
-    if !check_root(
-        area,
-        root,
-        Span {
-            from: content,
-            to: labels,
-        },
-    ) {
+    if !check_root(area, root.tag, root.content) {
         return Step::Bad;
     }
+    let labels = root.content.to;
     if labels == to {
-        return Step::On(Place {
-            at: to,
-            stop: p.stop,
-            last: p.last,
-        });
+        return Step::On(Place { at: to, ..p });
     }
     Step::Labels(Span { from: labels, to })
 }
@@ -215,13 +189,13 @@ fn enter_label(area: &[u8], p: Place, end: usize) -> Step
     if at == end {
         return Step::Done;
     }
-    let h = head::head_at(area, at, end);
-    let Head::Field { tag, from: _, to } = h else {
+    let Some(field) = head::head_at(area, at, end) else {
         return Step::Bad;
     };
-    if tag != TAG {
+    if field.tag != TAG {
         return Step::Bad;
     }
+    let to = field.content.to;
     if to - at < 7 {
         return Step::Bad;
     }
@@ -232,20 +206,14 @@ fn enter_label(area: &[u8], p: Place, end: usize) -> Step
     if Limits::LABEL < label_number(label) {
         return Step::Bad;
     }
-    let g = head::spanning_at(area, at + 4, to);
-    let Head::Field {
-        tag: inner,
-        from,
-        to: _,
-    } = g
-    else {
+    let Some(array) = head::spanning_at(area, at + 4, to) else {
         return Step::Bad;
     };
-    if inner != 1 {
+    if array.tag != 1 {
         return Step::Bad;
     }
     Step::On(Place {
-        at: from,
+        at: array.content.from,
         stop: to,
         last: label,
     })
@@ -274,27 +242,21 @@ fn label_number(label: u16) -> usize
 fn check_input(bytes: &[u8]) -> bool
     ensures { result ≡ input_ok bytes.now }
 {
-    let h = view::spanning(bytes);
-    match h {
-        Head::Field { tag, from, to } => check_array_field(
-            bytes,
-            tag,
-            Span { from, to },
-            Limits::DEPTH,
-        ),
-        Head::Nothing => false,
+    match view::spanning(bytes) {
+        Some(field) => check_array_field(bytes, field.tag, field.content, Limits::DEPTH),
+        None => false,
     }
 }
 
 /// The public check of a lent array, on any bytes: over its limit first, then malformed, tree limits included.
-pub fn check_array(bytes: &[u8]) -> Check
+pub fn check_array(bytes: &[u8]) -> Result<(), Fault>
     ensures { result ≡ check_of (read_array bytes.now) }
 {
     if Limits::ARRAY < bytes.len() {
-        return Check::Overlong;
+        return Err(Fault::Overlong);
     }
     if !check_input(bytes) {
-        return Check::Malformed;
+        return Err(Fault::Malformed);
     }
-    Check::Accepted
+    Ok(())
 }

@@ -4,12 +4,13 @@ ghost use Rattle.spec_trees.specs.Bytes.{two_limit};
 ghost use Rattle.format.specs.Head.{head_at, len_at, low_two, span_at};
 
 use areas::number::{two_at, wide};
+use areas::span::Span;
 
-/// What stands at a place: a field, with its tag and where its content begins and ends; or none that is whole.
+/// A field that stands whole at a place: its tag, and where its content stands.
 #[derive(Clone, Copy)]
-pub enum Head {
-    Field { tag: u8, from: usize, to: usize },
-    Nothing,
+pub struct FieldAt {
+    pub tag: u8,
+    pub content: Span,
 }
 
 /// The content length that the head at `at` gives.
@@ -37,39 +38,30 @@ pub fn low_four(area: &[u8], at: usize) -> usize
 }
 
 /// The field whose head is at `at` and which ends at or before `end`. After it nobody looks at length bytes.
-pub fn head_at(area: &[u8], at: usize, end: usize) -> Head
+pub fn head_at(area: &[u8], at: usize, end: usize) -> Option<FieldAt>
     requires { (at ≤ end) × (end ≤ length area.now) }
     ensures { result ≡ head_at area.now at end }
 {
     if end - at < 3 {
-        return Head::Nothing;
+        return None;
     }
     let from = at + 3;
     let to = from + len_at(area, at);
     if end < to {
-        return Head::Nothing;
+        return None;
     }
-    Head::Field {
+    Some(FieldAt {
         tag: area[at],
-        from,
-        to,
-    }
+        content: Span { from, to },
+    })
 }
 
 /// The field that spans the bytes from `at` to `end`: its head is at `at` and it ends at `end`, so that nothing trails.
-pub fn spanning_at(area: &[u8], at: usize, end: usize) -> Head
+pub fn spanning_at(area: &[u8], at: usize, end: usize) -> Option<FieldAt>
     requires { (at ≤ end) × (end ≤ length area.now) }
     ensures { result ≡ span_at area.now at end }
 {
-    let h = head_at(area, at, end);
-    match h {
-        Head::Field { tag, from, to } => {
-            if to == end {
-                Head::Field { tag, from, to }
-            } else {
-                Head::Nothing
-            }
-        }
-        Head::Nothing => Head::Nothing,
-    }
+    let field = head_at(area, at, end)?;
+    let to = field.content.to;
+    if to == end { Some(field) } else { None }
 }

@@ -1,22 +1,15 @@
 //! The labels of a tree. How many bytes a label takes, where they stand, and what stands before its trees is known here
 //! alone.
-ghost use Rattle.std.specs.Prelude.{◌≡◌, [], ◌∷◌, ◌+◌, ◌≤◌, ◌<◌, length};
+ghost use Rattle.std.specs.Prelude.{◌≡◌, [], ◌∷◌, ◌+◌, ◌≤◌, ◌<◌, length, Ok};
 ghost use Rattle.spec_trees.specs.Limits.{label_max, work_min};
 ghost use Rattle.areas.specs.Area.{Wrote};
 ghost use Rattle.spec_trees.specs.Bytes.{label_heads};
 ghost use Rattle.format.specs.Labels.{label_at, trees_at};
 ghost use Rattle.format.specs.Stand.{labels_bytes, entry_of, Holds, Finds, Behind, Headed};
 
-use areas::area::{Out, field_end, put_head};
+use areas::area::{TooLarge, field_end, put_head};
 use areas::number::wide;
 use areas::span::Span;
-
-/// Where the trees of a label's array stand, or that the label is missing.
-#[derive(Clone, Copy)]
-pub enum Found {
-    Part(Span),
-    Missing,
-}
 
 /// The tag of a label's field, which tells how many bytes stand before the label's trees: the field's head, the label,
 /// the head of its array.
@@ -45,9 +38,9 @@ pub fn heads(label: u16) -> usize
     TAG as usize
 }
 
-/// Finds a label among the labels that stand at a place. The contract also says what stands before and behind its
+/// Finds a label among the labels that stand at a place: where the trees of its array stand. The contract also says what stands before and behind its
 /// entry, which a writer may keep.
-pub fn find(area: &[u8], labels: Span, label: u16) -> Found
+pub fn find(area: &[u8], labels: Span, label: u16) -> Option<Span>
     requires { Holds labels_bytes area.now labels.from labels.to }
     ensures { Finds area.now labels label result }
 {
@@ -57,31 +50,34 @@ pub fn find(area: &[u8], labels: Span, label: u16) -> Found
         let m = field_end(area, at);
         if label_at(area, at) == label {
             let from = at + heads(label);
-            return Found::Part(Span { from, to: m });
+            return Some(Span { from, to: m });
         }
         at = m;
     }
-    Found::Missing
+    None
 }
 
 /// Stores a label at `at`. Every label is written here, so that a label may one day take two bytes.
 fn put_label(work: &mut [u8], at: usize, label: u16)
     requires { (at < length work.old) × (label ≤ label_max) }
-    ensures { Wrote work.old work.new at (at + 1) (label ∷ []) (Out.At (at + 1)) }
+    ensures { Wrote work.old work.new at (at + 1) (label ∷ []) (Ok (at + 1)) }
 {
     work[at] = label as u8;
 }
 
 /// Stores, before a content that was written behind the room for them, the heads of the label whose array it is.
-pub fn entry(work: &mut [u8], at: usize, label: u16, written: Out) -> Out
+pub fn entry(
+    work: &mut [u8],
+    at: usize,
+    label: u16,
+    written: Result<usize, TooLarge>,
+) -> Result<usize, TooLarge>
     requires { Behind work.old (at + label_heads label) written × (label ≤ label_max) × (length work.old ≤ work_min) }
     ensures { Headed (entry_of label) (label_heads label) work.old work.new at written result }
 {
-    let Out::At(end) = written else {
-        return Out::TooLarge;
-    };
+    let end = written?;
     put_head(work, at + 4, 1, end);
     put_label(work, at + 3, label);
     put_head(work, at, TAG, end);
-    Out::At(end)
+    Ok(end)
 }

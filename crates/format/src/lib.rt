@@ -4,6 +4,7 @@
 
 pub mod check;
 pub mod depth;
+pub mod fields;
 pub mod head;
 pub mod labels;
 pub mod limits;

@@ -1,12 +1,11 @@
 -- What the tree of a class asks of the area, and what is made there. The members of the class stand one behind
 -- another.
 use Rattle.std.specs.Prelude.{List, ℕ, ◌+◌, ◌*◌, ◌≤◌, length}
-use Rattle.areas.specs.declared.area.Out.{Out}
 use Rattle.spec_trees.specs.Limits.{tree_max, depth_max, aggregates_max, grouping_max, work_min}
 use Rattle.spec_trees.specs.Tree.{Tree}
 use Rattle.spec_trees.specs.Bytes.{tree_bytes}
 use Rattle.spec_trees.specs.Within.{Allowed, AllowedA}
-use Rattle.areas.specs.Area.{Is, IsAt}
+use Rattle.areas.specs.Area.{Is, IsAt, Out}
 use Rattle.areas.specs.declared.span.Span.{Span}
 use Rattle.spec_queries.specs.Query.{Pair}
 use Rattle.spec_queries.specs.Rules.{OkPairs}

@@ -1,16 +1,14 @@
 -- Laws of the tree of a class: it begins as the bare void tree, and grows by the aggregates and then by the grouping
 -- pairs.
-use Rattle.std.specs.Prelude.{◌≡◌, refl, List, [], ◌∷◌, ◌++◌, map, Bool, true, false, cond, ℕ, ◌+◌, ◌≤◌, length}
+use Rattle.std.specs.Prelude.{◌≡◌, refl, List, [], ◌∷◌, ◌++◌, map, Bool, true, false, cond, ℕ, ◌+◌, ◌≤◌, length, Ok, Err}
 use Rattle.std.proofs.Common.{ap, ap₂, arith}
-use Rattle.areas.specs.declared.area.Out.{Out}
-use Rattle.areas.specs.declared.area.Out.TheVariants.{At, TooLarge}
 use Rattle.spec_trees.specs.Limits.{tree_max, depth_max, aggregates_max}
 use Rattle.spec_trees.specs.Lists.{filter, All, gather}
 use Rattle.spec_trees.specs.ListLaws.{All-both, All-imply}
 use Rattle.spec_trees.specs.Tree.{Tree, bare_void}
 use Rattle.spec_trees.specs.Bytes.{tree_bytes}
 use Rattle.spec_trees.specs.Within.{Allowed, AllowedA}
-use Rattle.areas.specs.Area.{Is, Wrote, IsAt, span}
+use Rattle.areas.specs.Area.{Is, Wrote, IsAt, span, Out, too_large}
 use Rattle.spec_queries.specs.Query.{Pair}
 use Rattle.spec_queries.specs.Rules.{OkPair, OkPairs}
 use Rattle.queries.specs.Places.{pairs_bytes, array_trees}
@@ -60,8 +58,8 @@ module _ {w : List ℕ} {x xe b s : ℕ} (t : Tree) (ts : List Tree) (ot : Allow
   first_there = record { allowed = ot; first_is = ht; below = omega (arith, l, hs.ends) }
 
 module _ {w q : List ℕ} {at : GroupAt} {x xe b s : ℕ} (h : ClassReady w q at (span x xe) b s) {w1 : List ℕ} {z : ℕ} (l : length w1 ≡ length w)
-    (k : Wrote w w1 s (s + tree_max) (tree_bytes bare_void) (At z)) where
-  abbrev start : Grown w w1 s bare_void [] (At z)
+    (k : Wrote w w1 s (s + tree_max) (tree_bytes bare_void) (Ok z)) where
+  abbrev start : Grown w w1 s bare_void [] (Ok z)
   start = grown_void h.room k
 
   pub class_ready : PairsReady (ClassAt (span x b) s) Fits w1 q at.aggregates (span s z)
@@ -92,11 +90,11 @@ module _ {w q : List ℕ} {at : GroupAt} {x xe b s : ℕ} (h : ClassReady w q at
         let there = class_keep (t, ts) start.below (class_there t ts ot ht os hs h.below) in
         grown_next start (gather (one_part aggregate_value (t, ts)) ags) refl (λ y oy hy. j (t, ts) ags y there (fitting (t, ts) ags oa fs) ha oy hy)
 
-    pub class_stop : r ≡ TooLarge → MakesClass w w2 q at (span x xe) b s TooLarge
+    pub class_stop : r ≡ Err too_large → MakesClass w w2 q at (span x xe) b s (Err too_large)
     class_stop y ags gs t ts oa ha og hg ot ht os hs fs =
         grown_made (class_parts ags gs (t, ts)) (grown_stop (aggregates_grown ags t ts oa ha ot ht os hs fs) (gather (sourced_part (t, ts)) gs) y)
 
-    module _ {i : ℕ} (y : r ≡ At i) where
+    module _ {i : ℕ} (y : r ≡ Ok i) where
       pub identities_ready : length w2 ≡ length w1 → PairsReady (FirstAt (span x xe) s) Always w2 q at.keys (span s i)
       identities_ready l2 =
           let f = h.first in

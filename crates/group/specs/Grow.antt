@@ -1,14 +1,12 @@
 -- A tree that grows pair by pair: what each pair of a group adds to the tree of a class, and what was added.
-use Rattle.std.specs.Prelude.{◌≡◌, List, [], ◌∷◌, true, cond, ℕ, ◌+◌, ◌*◌, ◌≤◌, length, take, drop}
+use Rattle.std.specs.Prelude.{◌≡◌, List, [], ◌∷◌, true, cond, ℕ, ◌+◌, ◌*◌, ◌≤◌, length, take, drop, Err, Ok as At}
 use Rattle.std.proofs.Math.Option.{none, some}
-use Rattle.areas.specs.declared.area.Out.{Out}
-use Rattle.areas.specs.declared.area.Out.TheVariants.{At, TooLarge}
 use Rattle.spec_trees.specs.Limits.{tree_max, depth_max, work_min}
 use Rattle.spec_trees.specs.Lists.{All, gather}
 use Rattle.spec_trees.specs.Tree.{Tree}
 use Rattle.spec_trees.specs.Bytes.{tree_bytes}
 use Rattle.spec_trees.specs.Within.{Ok, Allowed, AllowedA}
-use Rattle.areas.specs.Area.{IsAt, span}
+use Rattle.areas.specs.Area.{IsAt, span, Out, too_large}
 use Rattle.areas.specs.declared.span.Span.{Span}
 use Rattle.spec_queries.specs.Query.{Pair}
 use Rattle.spec_queries.specs.Rules.{OkPair}
@@ -19,8 +17,7 @@ use Rattle.spec_stages.specs.Merge.{build}
 use Rattle.spec_stages.specs.Totals.{total, fits_signed, total_given}
 use Rattle.spec_stages.specs.Group.{aggregate, total_fits, sourced, Class}
 use Rattle.build.specs.Build.{Standing}
-use Rattle.data.specs.declared.value.Value.{Value}
-use Rattle.data.specs.Value.{WroteFound}
+use Rattle.data.specs.Value.{Value, WroteFound}
 
 -- ---- what a pair adds
 
@@ -91,7 +88,7 @@ pub record GrownTo (v : List ℕ) (built : Span) (z : Tree) (parts : List Tree) 
 -- all is as it was
 pub record Grown (w v : List ℕ) (s : ℕ) (z : Tree) (parts : List Tree) (r : Out) : Type 0 where
   pub tree_is : (e : ℕ) → r ≡ At e → GrownTo v (span s e) z parts
-  pub large : r ≡ TooLarge → build z parts ≡ none
+  pub large : r ≡ Err too_large → build z parts ≡ none
   pub below : take s v ≡ take s w
   pub beyond : drop (s + 3 * tree_max) v ≡ drop (s + 3 * tree_max) w
 

@@ -2,11 +2,9 @@
 use Rattle.std.proofs.Math.Path.{◌≡◌, refl, ap, subst}
 use Rattle.std.proofs.Common.{sym, ◌∙◌, leb→le}
 use mathlib.Core.List.{List, [], ◌∷◌, ◌++◌}
-use Rattle.std.specs.Prelude.{Bool, true, false, cond, ◌&&◌, ℕ, ◌+◌, ◌*◌, ◌≤◌, length, take, leb}
+use Rattle.std.specs.Prelude.{Bool, true, false, cond, ◌&&◌, ℕ, ◌+◌, ◌*◌, ◌≤◌, length, take, leb, Err, Ok as At}
 use Rattle.std.proofs.Math.Option.{Option, none}
 use native.Mathlib.Omega.{arith}
-use Rattle.areas.specs.declared.area.Out.{Out}
-use Rattle.areas.specs.declared.area.Out.TheVariants.{At, TooLarge}
 use Rattle.spec_trees.specs.Limits.{tree_max, depth_max}
 use Rattle.spec_trees.specs.Options.{◌>>=◌}
 use Rattle.spec_trees.specs.Lists.{All, gather}
@@ -14,8 +12,7 @@ use Rattle.spec_trees.specs.Tree.{Tree, bare_void}
 use Rattle.spec_trees.specs.Size.{size, depth, fits}
 use Rattle.spec_trees.specs.Bytes.{tree_bytes}
 use Rattle.spec_trees.specs.Within.{Ok}
-use Rattle.areas.specs.Area.{Is, Wrote, field_end, span}
-use Rattle.areas.specs.declared.span.Span.{Span}
+use Rattle.areas.specs.Area.{Is, Wrote, field_end, span, Out, too_large}
 use Rattle.areas.specs.AreaLaws.{drop_more, wrote_keep, written}
 use Rattle.spec_trees.specs.OptionLaws.{true_T, T_and}
 use Rattle.spec_queries.specs.Query.{Pair}
@@ -88,7 +85,7 @@ module _ {w : List ℕ} {s : ℕ} where
 
 -- ---- parts behind others
 module _ {w u : List ℕ} {s : ℕ} {z : Tree} {xs : List Tree} {r : Out} (h : Grown w u s z xs r) (ys : List Tree) where
-  pub grown_stop : r ≡ TooLarge → Grown w u s z (xs ++ ys) TooLarge
+  pub grown_stop : r ≡ Err too_large → Grown w u s z (xs ++ ys) (Err too_large)
   unfolding ◌>>=◌
   grown_stop q = record {
     tree_is = λ e i. let y : ◌≡◌ {A = ℕ} 0 1 = cc in absurd (omega arith);
@@ -140,12 +137,12 @@ module _ (C : List ℕ → Class → Type 0) (Q : Class → Pair → Type 0) (f 
     }
 
     module _ {u : List ℕ} {r : Out} (k : PairGrows C Q f w u q (span p m) (span s se) r) where
-      pub pairs_stop : r ≡ TooLarge → PairsGrow C Q f w u q (span p e) (span s se) TooLarge
+      pub pairs_stop : r ≡ Err too_large → PairsGrow C Q f w u q (span p e) (span s se) (Err too_large)
       unfolding gather
       pairs_stop y c ps z hc op hp oz hz =
           let a = list_parts pair_f ps g n hp in
           let oa = subst (All (Sound Q c)) a.same op in
-          subst (λ i. Grown w u s z (gather (f c) i) TooLarge) (sym a.same)
+          subst (λ i. Grown w u s z (gather (f c) i) (Err too_large)) (sym a.same)
           (grown_stop (k c a.first z hc oa.0 a.first_is oz hz) (gather (f c) a.rest) y)
 
       module _ (keep : (c : Class) → take s u ≡ take s w → C w c → C u c) {i : ℕ} (y : r ≡ At i) where

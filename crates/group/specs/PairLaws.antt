@@ -1,16 +1,14 @@
 -- Laws of one pair: its value, written and placed, is a part of the class's tree; and the class stands there unchanged.
-use Rattle.std.specs.Prelude.{◌≡◌, refl, List, [], ◌∷◌, Bool, false, ℕ, ◌+◌, ◌*◌, ◌≤◌, length, take}
+use Rattle.std.specs.Prelude.{◌≡◌, refl, List, [], ◌∷◌, Bool, false, ℕ, ◌+◌, ◌*◌, ◌≤◌, length, take, Ok as At}
 use Rattle.std.proofs.Common.{sym, ◌∙◌, arith}
 use Rattle.std.proofs.Math.Path.{ap, subst}
 use Rattle.std.proofs.Math.Bool.{true, cond}
-use Rattle.areas.specs.declared.area.Out.{Out}
-use Rattle.areas.specs.declared.area.Out.TheVariants.{At}
 use Rattle.spec_trees.specs.Limits.{tree_max, work_min}
 use Rattle.spec_trees.specs.Tree.{trees}
 use Rattle.spec_trees.specs.SizeLaws.{list_trees}
 use Rattle.spec_trees.specs.Bytes.{tree_bytes}
 use Rattle.spec_trees.specs.Within.{Ok}
-use Rattle.areas.specs.Area.{Is, Wrote, IsAt, span}
+use Rattle.areas.specs.Area.{Is, Wrote, IsAt, span, Out}
 use Rattle.areas.specs.AreaLaws.{is_keep, wrote_keep, written}
 use Rattle.format.specs.Stand.{trees_bytes, Holds}
 use Rattle.spec_queries.specs.Query.{Pair}
@@ -26,8 +24,7 @@ use Rattle.paths.specs.Walk.{Walk, Tells, TellsOver}
 use Rattle.paths.specs.WalkLaws.{walk_at}
 use Rattle.keys.specs.Keys.{SourcedIs}
 use Rattle.keys.specs.KeyLaws.{pair_source}
-use Rattle.data.specs.declared.value.Value.{Value}
-use Rattle.data.specs.Value.{WroteFound}
+use Rattle.data.specs.Value.{Value, WroteFound}
 use Rattle.data.specs.Write.{WalkReady}
 use Rattle.totals.specs.declared.exact.Total.{Total}
 use Rattle.totals.specs.Sum.{TotalOver}

@@ -4,7 +4,7 @@
 ghost use Rattle.group.specs.Grow.{aggregate_value, joined_value, total_value, identity_value, one_part, sourced_part, Always, Fits, TotalFits, FirstAt, ClassAt, PairReady, PairGrows, PairsReady, PairsGrow};
 ghost use Rattle.group.specs.Class.{ClassReady, MakesClass};
 
-use areas::area::{Out, field_end};
+use areas::area::{TooLarge, field_end};
 use areas::span::Span;
 use build::part::{add_written, begin, place_value};
 use data::data::{write_path, write_path_over};
@@ -17,7 +17,13 @@ use totals::over::total_over;
 use totals::write::write_total;
 
 /// Adds to the tree so far what the aggregate, which is no total, gives of the class: the values of all members, joined.
-fn add_joined(work: &mut [u8], query: &[u8], pair: Span, members: Span, built: Span) -> Out
+fn add_joined(
+    work: &mut [u8],
+    query: &[u8],
+    pair: Span,
+    members: Span,
+    built: Span,
+) -> Result<usize, TooLarge>
     requires { PairReady (ClassAt members built.from) Always work.old query.now pair built }
     ensures { PairGrows (ClassAt members built.from) Always (one_part joined_value) work.old work.new query.now pair built result }
 {
@@ -33,7 +39,13 @@ fn add_joined(work: &mut [u8], query: &[u8], pair: Span, members: Span, built: S
 
 /// Adds to the tree so far the total of the class, which fits: the sum of the integers that the source gives of all
 /// members.
-fn add_total(work: &mut [u8], query: &[u8], pair: Span, members: Span, built: Span) -> Out
+fn add_total(
+    work: &mut [u8],
+    query: &[u8],
+    pair: Span,
+    members: Span,
+    built: Span,
+) -> Result<usize, TooLarge>
     requires { PairReady (ClassAt members built.from) TotalFits work.old query.now pair built }
     ensures { PairGrows (ClassAt members built.from) TotalFits (one_part total_value) work.old work.new query.now pair built result }
 {
@@ -48,7 +60,13 @@ fn add_total(work: &mut [u8], query: &[u8], pair: Span, members: Span, built: Sp
 }
 
 /// Adds to the tree so far what the aggregate gives of the class.
-fn add_aggregate(work: &mut [u8], query: &[u8], pair: Span, members: Span, built: Span) -> Out
+fn add_aggregate(
+    work: &mut [u8],
+    query: &[u8],
+    pair: Span,
+    members: Span,
+    built: Span,
+) -> Result<usize, TooLarge>
     requires { PairReady (ClassAt members built.from) Fits work.old query.now pair built }
     ensures { PairGrows (ClassAt members built.from) Fits (one_part aggregate_value) work.old work.new query.now pair built result }
 {
@@ -65,7 +83,7 @@ fn add_aggregates(
     aggregates: Span,
     members: Span,
     built: Span,
-) -> Out
+) -> Result<usize, TooLarge>
     requires { PairsReady (ClassAt members built.from) Fits work.old query.now aggregates built }
     ensures { PairsGrow (ClassAt members built.from) Fits (one_part aggregate_value) work.old work.new query.now aggregates built result }
 {
@@ -76,18 +94,21 @@ fn add_aggregates(
     while at != last {
         let m = field_end(query, at);
         let pair = Span { from: at, to: m };
-        let r = add_aggregate(work, query, pair, members, Span { from: base, to });
-        let Out::At(n) = r else {
-            return Out::TooLarge;
-        };
+        let n = add_aggregate(work, query, pair, members, Span { from: base, to })?;
         to = n;
         at = m;
     }
-    Out::At(to)
+    Ok(to)
 }
 
 /// Adds to the tree so far what the grouping pair gives of the class's first tree.
-fn add_identity(work: &mut [u8], query: &[u8], pair: Span, first: Span, built: Span) -> Out
+fn add_identity(
+    work: &mut [u8],
+    query: &[u8],
+    pair: Span,
+    first: Span,
+    built: Span,
+) -> Result<usize, TooLarge>
     requires { PairReady (FirstAt first built.from) Always work.old query.now pair built }
     ensures { PairGrows (FirstAt first built.from) Always (one_part identity_value) work.old work.new query.now pair built result }
 {
@@ -102,19 +123,31 @@ fn add_identity(work: &mut [u8], query: &[u8], pair: Span, first: Span, built: S
 }
 
 /// The same, if the pair is in the class's subset: a source that is absent adds nothing.
-fn add_sourced(work: &mut [u8], query: &[u8], pair: Span, first: Span, built: Span) -> Out
+fn add_sourced(
+    work: &mut [u8],
+    query: &[u8],
+    pair: Span,
+    first: Span,
+    built: Span,
+) -> Result<usize, TooLarge>
     requires { PairReady (FirstAt first built.from) Always work.old query.now pair built }
     ensures { PairGrows (FirstAt first built.from) Always sourced_part work.old work.new query.now pair built result }
 {
     let at = pair_at(query, pair);
     if !present(query, at.source, 0, work, first) {
-        return Out::At(built.to);
+        return Ok(built.to);
     }
     add_identity(work, query, pair, first, built)
 }
 
 /// The same of each grouping pair.
-fn add_identities(work: &mut [u8], query: &[u8], keys: Span, first: Span, built: Span) -> Out
+fn add_identities(
+    work: &mut [u8],
+    query: &[u8],
+    keys: Span,
+    first: Span,
+    built: Span,
+) -> Result<usize, TooLarge>
     requires { PairsReady (FirstAt first built.from) Always work.old query.now keys built }
     ensures { PairsGrow (FirstAt first built.from) Always sourced_part work.old work.new query.now keys built result }
 {
@@ -125,14 +158,11 @@ fn add_identities(work: &mut [u8], query: &[u8], keys: Span, first: Span, built:
     while at != last {
         let m = field_end(query, at);
         let pair = Span { from: at, to: m };
-        let r = add_sourced(work, query, pair, first, Span { from: base, to });
-        let Out::At(n) = r else {
-            return Out::TooLarge;
-        };
+        let n = add_sourced(work, query, pair, first, Span { from: base, to })?;
         to = n;
         at = m;
     }
-    Out::At(to)
+    Ok(to)
 }
 
 /// Makes at `at` the tree of the class and answers where it ends. The class's members stand below `at`, one behind
@@ -144,7 +174,7 @@ pub fn class_tree(
     first: Span,
     end: usize,
     at: usize,
-) -> Out
+) -> Result<usize, TooLarge>
     requires { ClassReady work.old query.now group first end at }
     ensures { MakesClass work.old work.new query.now group first end at result }
 {
@@ -156,9 +186,6 @@ pub fn class_tree(
         from: first.from,
         to: end,
     };
-    let r = add_aggregates(work, query, group.aggregates, members, begun);
-    let Out::At(to) = r else {
-        return Out::TooLarge;
-    };
+    let to = add_aggregates(work, query, group.aggregates, members, begun)?;
     add_identities(work, query, group.keys, first, Span { from: at, to })
 }

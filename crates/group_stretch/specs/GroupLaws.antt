@@ -1,11 +1,9 @@
 -- Laws of a group: the tree of a class and what becomes of it, one class after another.
-use Rattle.std.specs.Prelude.{◌≡◌, List, [], ◌∷◌, ◌++◌, map, Bool, true, false, cond, ◌&&◌, ℕ, ◌+◌, ◌-◌, ◌*◌, ◌≤◌, length, take, drop}
+use Rattle.std.specs.Prelude.{◌≡◌, List, [], ◌∷◌, ◌++◌, map, Bool, true, false, cond, ◌&&◌, ℕ, ◌+◌, ◌-◌, ◌*◌, ◌≤◌, length, take, drop, Err, Ok as At}
 use Rattle.std.proofs.Math.Path.{refl, ap}
 use Rattle.std.proofs.Common.{sym, subst, ◌∙◌, append-nil, arith, take_all, take_at, take-take}
 use Rattle.std.proofs.Math.Option
 use Rattle.std.proofs.Math.Option.{Option, none, some}
-use Rattle.areas.specs.declared.area.Out.{Out}
-use Rattle.areas.specs.declared.area.Out.TheVariants.{At, TooLarge}
 use Rattle.areas.specs.declared.span.Span.{Span}
 use Rattle.spec_trees.specs.Options.{◌>>=◌}
 use Rattle.spec_trees.specs.OptionLaws.{true_T, some_equal}
@@ -16,7 +14,7 @@ use Rattle.spec_trees.specs.Limits.{depth_max, grouping_max, positions_min, work
 use Rattle.spec_trees.specs.Tree.{Tree, bare_void}
 use Rattle.spec_trees.specs.Size.{fits}
 use Rattle.spec_trees.specs.Within.{Ok, Allowed, AllowedA}
-use Rattle.areas.specs.Area.{field_end, span}
+use Rattle.areas.specs.Area.{field_end, span, Out, too_large}
 use Rattle.areas.specs.AreaLaws.{take_less, is_keep}
 use Rattle.areas.specs.Number.{two_at}
 use Rattle.spec_queries.specs.Query.{Pair, Stage}
@@ -48,7 +46,7 @@ use Rattle.stream.specs.TailLaws.{tail_is, tail_length, lent_front, ends_beyond}
 use Rattle.stream.specs.Feed.{Planned, Front, FeedReady, FeedPost}
 use Rattle.key_index.specs.Index.{numbers_at}
 use Rattle.arrange.specs.Arrange.{arranged}
-use Rattle.classes.specs.declared.read.Reached.{Reached}
+use Rattle.key_index.specs.declared.front.Reached.{Reached}
 use Rattle.stretch.specs.declared.next.StretchAt.{StretchAt}
 use Rattle.group_stretch.specs.Group.{GroupPlan, GroupReady, GroupPost, through, borne_through}
 use Rattle.group_stretch.specs.Grouping.{ClassStands, ClassFrom, ClassFed}
@@ -159,7 +157,7 @@ module _ {w : List ℕ} {x : Span} {e : ℕ} {q : List ℕ} {at : StretchAt} {j 
     made_here : Made w y front_part (class_tree c.plan.aggregates c.plan.grouping c.one) o
     made_here = made c.plan.aggregates c.plan.grouping c.one pairs₀ c.stands c.fits
 
-    pub class_large : o ≡ TooLarge → ClassFed w y x e q at j s Large
+    pub class_large : o ≡ Err too_large → ClassFed w y x e q at j s Large
     class_large z = record {
       kept = made_here.below;
       feeds = λ ags gs d ss us hp h f hl.

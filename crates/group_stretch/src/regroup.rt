@@ -6,11 +6,12 @@
 ghost use Rattle.group_stretch.specs.Group.{GroupReady, GroupPost};
 ghost use Rattle.group_stretch.specs.Grouping.{ClassFrom, ClassFed};
 
-use areas::area::{Out, field_end};
+use areas::area::{TooLarge, field_end};
 use areas::number::two_at;
 use areas::span::Span;
-use classes::read::{Reached, class_end};
+use classes::read::class_end;
 use group::class::class_tree;
+use key_index::front::Reached;
 use key_index::index::Index;
 use map::map::Map;
 use stream::collector::{Collector, is_large};
@@ -32,8 +33,7 @@ fn feed_class<'a>(
     requires { ClassFrom work.old first end query.now at joined.now collector }
     ensures { ClassFed work.old work.new first end query.now at joined.now collector result }
 {
-    let out = class_tree(work, query, at.group, first, end, Map::FRONT);
-    let Out::At(o) = out else {
+    let Ok(o) = class_tree(work, query, at.group, first, end, Map::FRONT) else {
         return Collector::Large;
     };
     feed(

@@ -5,10 +5,9 @@ use Rattle.std.proofs.Common.{◌∙◌, arith}
 use mathlib.Core.List.{List, [], ◌∷◌, ◌++◌, reverse, reverse_aux, append-nil}
 use Rattle.std.proofs.Math.Bool.{cond}
 use Rattle.spec_trees.specs.OptionLaws.{split, apart, cond_cases}
-use Rattle.spec_trees.specs.Lists.{filter, all}
+use Rattle.spec_trees.specs.Lists.{filter, all, All}
 use Rattle.spec_stages.specs.Equivalence.{Equivalence}
 use Rattle.std.proofs.Math.Logic.{inl, inr}
-use Rattle.spec_trees.specs.Lists.{All}
 use Rattle.key_index.specs.Links.{Spot, Apart, Rising, passing, offset, first_of, none_of, Links, Entered}
 use Rattle.spec_stages.specs.EquivalenceLaws.{turned}
 use Rattle.key_index.specs.LinksLaws.{first_step, none_same, passing_append, passing_none, first_behind, first_before}

@@ -1,5 +1,5 @@
 -- What the entering of one tree into the index does, in the terms of the code.
-use Rattle.std.specs.Prelude.{◌≡◌, List, ◌∷◌, [], ◌++◌, reverse, ◌≢◌, ◌⊎◌, ℕ, ◌+◌, ◌≤◌, ◌<◌, drop, eqb}
+use Rattle.std.specs.Prelude.{◌≡◌, List, ◌∷◌, [], ◌++◌, reverse, ◌≢◌, ◌⊎◌, ℕ, ◌+◌, ◌≤◌, ◌<◌, drop, eqb, Option, Some, None}
 use Rattle.spec_trees.specs.Limits.{depth_max}
 use Rattle.spec_trees.specs.Tree.{Tree}
 use Rattle.spec_trees.specs.Bytes.{tree_bytes}
@@ -30,8 +30,13 @@ pub record Search (w q : List ℕ) (keys_at tree_at : Span) (last : ℕ) : Type 
 abbrev pub last_like : List Pair → List Tree → Tree → ℕ
 last_like gs seen t = first_of (λ u. alike gs u t) (reverse (standing seen))
 
-abbrev pub LastIs : (w q : List ℕ) (keys_at tree_at : Span) (last : ℕ) → ℕ → Type 0
-LastIs w q keys_at tree_at last r = (s : Search w q keys_at tree_at last) → r ≡ last_like s.entering.grouping s.entering.seen s.entering.tree
+-- the tree that a number speaks of, as two bytes note it: 0 is none
+pub record Noted (r : Option ℕ) (n : ℕ) : Type 0 where
+  pub missing : r ≡ None → n ≡ 0
+  pub there : (y : ℕ) → r ≡ Some y → (y ≡ n) × (y ≢ 0)
+
+abbrev pub LastIs : (w q : List ℕ) (keys_at tree_at : Span) (last : ℕ) → Option ℕ → Type 0
+LastIs w q keys_at tree_at last r = (s : Search w q keys_at tree_at last) → Noted r (last_like s.entering.grouping s.entering.seen s.entering.tree)
 
 -- a tree stands there
 pub record Stood (w : List ℕ) (s : Spot Tree) : Type 0 where
@@ -48,9 +53,9 @@ pub record Searching (w : List ℕ) (gs : List Pair) (seen : List Tree) (t : Tre
   pub rest : first_of (λ u. alike gs u t) left ≡ last_like gs seen t
 
 -- r is the mark of the tree, before which `like` is the last with its key
-abbrev pub MarkIs : (q : List ℕ) (keys_at : Span) (w : List ℕ) (tree_at : Span) (like : ℕ) → ℕ → Type 0
+abbrev pub MarkIs : (q : List ℕ) (keys_at : Span) (w : List ℕ) (tree_at : Span) (like : Option ℕ) → ℕ → Type 0
 MarkIs q keys_at w tree_at like r = (gs : List Pair) (t : Tree) → IsAt q keys_at (pairs_bytes gs) → IsAt w tree_at (tree_bytes t)
-    → r ≡ mark (sum (key gs t)) (eqb like 0)
+    → (n : ℕ) → Noted like n → r ≡ mark (sum (key gs t)) (eqb n 0)
 
 -- ---- what is stored
 -- under the condition P the number n is stored at a; numbers that do not overlap it stay
@@ -59,9 +64,13 @@ pub record StoredIf (P : Type 0) (w v : List ℕ) (a n : ℕ) : Type 0 where
   pub others : (b : ℕ) → (P → (b + 2 ≤ a) ⊎ (a + 2 ≤ b)) → two_at v b ≡ two_at w b
   pub beyond : drop base v ≡ drop base w
 
--- the link of y, if there is one, leads to x
-abbrev pub Linked : (w v : List ℕ) (y x : ℕ) → Type 0
-Linked w v y x = StoredIf (y ≢ 0) w v (next_at y) x
+-- the link of y, unless that is 0, leads to x
+abbrev pub LinkedAt : (w v : List ℕ) (y x : ℕ) → Type 0
+LinkedAt w v y x = StoredIf (y ≢ 0) w v (next_at y) x
+
+-- the link of `like`, if there is one, leads to x
+abbrev pub Linked : (w v : List ℕ) (like : Option ℕ) (x : ℕ) → Type 0
+Linked w v like x = (y : ℕ) → Noted like y → LinkedAt w v y x
 
 -- the classes of the subset m, if it is one, are one more
 abbrev pub Counted : (w v : List ℕ) (m : ℕ) → Type 0

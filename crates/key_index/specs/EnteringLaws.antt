@@ -1,5 +1,5 @@
 -- Laws of entering a tree: what the stores do makes it one of the index.
-use Rattle.std.specs.Prelude.{◌≡◌, refl, Bool, cond, ◌&&◌, ◌≢◌, ◌⊎◌, ℕ, ◌+◌, ◌≤◌, ◌<◌, length, drop, eqb, ltb}
+use Rattle.std.specs.Prelude.{◌≡◌, refl, Bool, cond, ◌&&◌, ◌≢◌, ◌⊎◌, ℕ, ◌+◌, ◌≤◌, ◌<◌, length, drop, eqb, ltb, Ok, Option, Some}
 use Rattle.std.proofs.Math.Path.{sym, ap}
 use Rattle.std.proofs.Common.{subst, ◌∙◌, pow_mono, arith}
 use mathlib.Core.List.{List, [], ◌∷◌, ◌++◌, reverse, append-nil, append_assoc}
@@ -12,7 +12,6 @@ use Rattle.spec_trees.specs.ListLaws.{All-imply, All-reverse}
 use Rattle.spec_trees.specs.Tree.{Tree}
 use Rattle.areas.specs.declared.span.Span.{Span}
 use Rattle.areas.specs.Area.{Wrote}
-use Rattle.areas.specs.declared.area.Out.TheVariants.{At}
 use Rattle.areas.specs.Number.{two_at, two_bytes}
 use Rattle.spec_queries.specs.Query.{Pair}
 use Rattle.spec_stages.specs.Group.{key, alike, sum}
@@ -27,7 +26,7 @@ use Rattle.key_index.specs.EnterLaws.{apart_found, rising_left}
 use Rattle.key_index.specs.SpotsLaws.{spots_append, spots_elements, first_unseen}
 use Rattle.key_index.specs.IndexLaws.{rising_below, spots_entered}
 use Rattle.key_index.specs.Index.{base, back_at, next_at, mark_at, slots, heads_at, head_at, subsets_max, counts_at, count_at, size_of, standing, slot, mark, Marks, Index, Entering}
-use Rattle.key_index.specs.Entering.{last_like, Stood, StoredIf, Linked, Counted, Enters}
+use Rattle.key_index.specs.Entering.{last_like, Noted, Stood, StoredIf, LinkedAt, Counted, Enters}
 use Rattle.areas.specs.NumberLaws.{Put, put}
 use Rattle.key_index.specs.StandingLaws.{all_stood}
 use Rattle.key_index.specs.CountLaws.{one, count_behind, count_most, six_each}
@@ -37,7 +36,7 @@ use Rattle.key_index.specs.SearchLaws.{slot_below, end_seen, rising, places}
 pub stored_not : {P : Type 0} (w : List ℕ) (a n : ℕ) → (P → ⊥) → StoredIf P w w a n
 stored_not w a n never = record { set = λ p. absurd (never p); others = λ b l. refl; beyond = refl }
 
-pub stored_put : {P : Type 0} {w v : List ℕ} {a n : ℕ} → P → a + 2 ≤ length w → a + 2 ≤ base → Wrote w v a (a + 2) (two_bytes n) (At (a + 2)) → StoredIf P w v a n
+pub stored_put : {P : Type 0} {w v : List ℕ} {a n : ℕ} → P → a + 2 ≤ length w → a + 2 ≤ base → Wrote w v a (a + 2) (two_bytes n) (Ok (a + 2)) → StoredIf P w v a n
 stored_put {w = w} {v = v} {a = a} {n = n} it l u h =
     let p = put l h in
     record {
@@ -111,12 +110,20 @@ module _ {w q : List ℕ} {keys_at tree_at : Span} (e : Entering w q keys_at tre
       (All-reverse (λ s. (s.0 ≢ 0 → base ≤ s.0) × (s.0 + 6 ≤ tree_at.from)) (standing e.seen)
       (All-imply (λ s. (base ≤ s.0) × (s.0 + 6 ≤ tree_at.from)) (λ s. (s.0 ≢ 0 → base ≤ s.0) × (s.0 + 6 ≤ tree_at.from)) (λ s h. ((λ n. h.0), h.1)) (standing e.seen) seen_places)))
 
+  pub found_places : {like : Option ℕ} → Noted like (last_like e.grouping e.seen e.tree) → (y : ℕ) → like ≡ Some y
+      → (base ≤ y) × (y ≤ base + trees_max)
+  found_places h y z =
+      let k = h.there y z in
+      let p = like_places k.0 in
+      let l = places e in
+      (p.0 k.1, omega (arith, p.1))
+
 -- ---- all stores of one tree: it is entered at x, `last` is the last with its slot, y the last with its key
 module _ {w q : List ℕ} {keys_at tree_at : Span} (e : Entering w q keys_at tree_at) {w1 w2 w3 w4 w5 : List ℕ} {last y m h : ℕ}
     (hs : h ≡ head_at (slot e.grouping e.tree)) (ls : last ≡ two_at w h) (ys : y ≡ last_like e.grouping e.seen e.tree)
     (ms : m ≡ mark (sum (key e.grouping e.tree)) (eqb y 0))
     (p1 : Put w w1 (back_at tree_at.from) last) (p2 : Put w1 w2 (next_at tree_at.from) 0) (p3 : Put w2 w3 (mark_at tree_at.from) m)
-    (p4 : Put w3 w4 h tree_at.from) (p5 : Linked w4 w5 y tree_at.from) where
+    (p4 : Put w3 w4 h tree_at.from) (p5 : LinkedAt w4 w5 y tree_at.from) where
   abbrev gs : List Pair
   gs = e.grouping
 

@@ -7,11 +7,9 @@ use Rattle.std.proofs.Math.Dec.{eqb}
 use Rattle.spec_trees.specs.Lists.{filter, All}
 use Rattle.spec_trees.specs.ListLaws.{All-imply, All-reverse, All-filter, All-right}
 use Rattle.spec_stages.specs.Equivalence.{Equivalence}
-use Rattle.key_index.specs.Links.{Spot, spots, end, elements, up, down, Ordered, Rising, passing}
-use Rattle.key_index.specs.Links.{offset, first_of, Links, Follows, same_slot, Heads, Walk, Indexed, Stored}
+use Rattle.key_index.specs.Links.{Spot, spots, end, elements, up, down, Ordered, Rising, passing, offset, first_of, Links, Follows, same_slot, Heads, Walk, Indexed, Stored}
 use Rattle.spec_stages.specs.EquivalenceLaws.{eqb_turned}
-use Rattle.key_index.specs.LinksLaws.{first_step, first_same, follow, follow_on, follow_ended, chain}
-use Rattle.key_index.specs.LinksLaws.{entered_first, entered_head, links_behind, ordered_passing}
+use Rattle.key_index.specs.LinksLaws.{first_step, first_same, follow, follow_on, follow_ended, chain, entered_first, entered_head, links_behind, ordered_passing}
 use Rattle.key_index.specs.EnterLaws.{rising_last, entered_next}
 use Rattle.key_index.specs.SpotsLaws.{elements_passing, ordered_reverse, spots_append, spots_elements, spots_rising, end_from}
 

@@ -1,5 +1,5 @@
 -- Laws of the search for the last tree with the same key: it goes back along the trees of one slot.
-use Rattle.std.specs.Prelude.{◌≡◌, List, [], ◌∷◌, ◌++◌, reverse, Bool, true, false, ◌≢◌, ℕ, ◌+◌, ◌%◌, ◌≤◌, ◌<◌, length, eqb}
+use Rattle.std.specs.Prelude.{◌≡◌, List, [], ◌∷◌, ◌++◌, reverse, Bool, true, false, ◌≢◌, ℕ, ◌+◌, ◌%◌, ◌≤◌, ◌<◌, length, eqb, Some, None}
 use Rattle.std.proofs.Common.{sym, ap, subst, ◌∙◌, arith}
 use Rattle.spec_trees.specs.Limits.{work_min}
 use Rattle.spec_trees.specs.Tree.{Tree}
@@ -19,8 +19,18 @@ use Rattle.key_index.specs.Links.{Spot, end, down, Rising, passing, first_of, Wa
 use Rattle.key_index.specs.LinksLaws.{search}
 use Rattle.key_index.specs.IndexLaws.{index_walk, walk_down, rising_behind, search_ended, search_on}
 use Rattle.key_index.specs.Index.{base, back_at, slots, size_of, standing, slot, Entering}
-use Rattle.key_index.specs.Entering.{Search, last_like, Stood, Searching}
+use Rattle.key_index.specs.Entering.{Search, last_like, Noted, Stood, Searching}
 use Rattle.key_index.specs.StandingLaws.{end_is, tree_end, all_stood}
+
+-- what a number speaks of: no tree, or that tree
+pub noted_none : {n : ℕ} → 0 ≡ n → Noted None n
+noted_none z = record { missing = λ e. sym z; there = λ y e. absurd (cc) }
+
+pub noted_some : {x n : ℕ} → x ≡ n → x ≢ 0 → Noted (Some x) n
+noted_some {x} {n} z k = record {
+  missing = λ e. absurd (cc);
+  there = λ y e. (cc, λ o. k (cc));
+}
 
 -- the number of a slot is below their count
 pub slot_below : (gs : List Pair) (t : Tree) → slot gs t < slots

@@ -3,7 +3,7 @@
 //! subset of the grouping pairs if it begins a class. The classes of each subset are counted. A slot is a hash of the
 //! key: what it gets wrong costs time, for which keys are equal is decided by their bytes. Of `<'a>`: see crate
 //! `paths`'s `equality`.
-ghost use Rattle.std.specs.Prelude.{◌≡◌, ◌≢◌, ◌+◌, ◌≤◌, ◌<◌, length};
+ghost use Rattle.std.specs.Prelude.{◌≡◌, ℕ, ◌+◌, ◌≤◌, ◌<◌, length, Some};
 ghost use Rattle.spec_trees.specs.Limits.{work_min};
 ghost use Rattle.spec_trees.specs.Bytes.{tree_bytes};
 ghost use Rattle.areas.specs.Number.{two_at};
@@ -27,8 +27,14 @@ fn head_of(query: &[u8], keys: Span, work: &[u8], tree: Span) -> usize
     Index::HEADS + 2 * (key_hash(query, keys, work, tree) % Index::SLOTS)
 }
 
-/// The last tree that was entered with the key of this one, or 0 if none was. `last` is the last with its slot.
-fn last_like<'a>(work: &'a [u8], query: &'a [u8], keys: Span, tree: Span, last: usize) -> usize
+/// The last tree that was entered with the key of this one, if one was. `last` is the last with its slot, or 0.
+fn last_like<'a>(
+    work: &'a [u8],
+    query: &'a [u8],
+    keys: Span,
+    tree: Span,
+    last: usize,
+) -> Option<usize>
     requires { Search work.now query.now keys tree last }
     ensures { LastIs work.now query.now keys tree last result }
 {
@@ -39,30 +45,30 @@ fn last_like<'a>(work: &'a [u8], query: &'a [u8], keys: Span, tree: Span, last: 
             to: field_end(work, at),
         };
         if same_key(query, keys, work, other, work, tree) {
-            return at;
+            return Some(at);
         }
         at = two_at(work, at - Index::BACK);
     }
-    0
+    None
 }
 
-/// The mark of a tree: its subset if it begins a class, otherwise a number that no subset is.
-fn mark_of(query: &[u8], keys: Span, work: &[u8], tree: Span, like: usize) -> usize
+/// The mark of a tree: its subset if none is like it, so that it begins a class, otherwise a number that no subset is.
+fn mark_of(query: &[u8], keys: Span, work: &[u8], tree: Span, like: Option<usize>) -> usize
     requires { OkAt FewPairs pairs_bytes query.now keys × HoldsAt tree_bytes work.now tree }
     ensures { (result ≤ subsets_max) × MarkIs query.now keys work.now tree like result }
 {
-    if like == 0 {
-        return subset(query, keys, work, tree);
+    match like {
+        Some(_) => Index::SUBSETS,
+        None => subset(query, keys, work, tree),
     }
-    Index::SUBSETS
 }
 
-/// The tree at `like`, unless that is 0, gets the tree at `at` as the next with its key.
-fn link(work: &mut [u8], like: usize, at: usize)
-    requires { (length work.old ≡ work_min) × (like ≢ 0 → base ≤ like) × (like ≤ base + trees_max) × (at < work_min) }
+/// The tree `like`, if there is one, gets the tree at `at` as the next with its key.
+fn link(work: &mut [u8], like: Option<usize>, at: usize)
+    requires { (length work.old ≡ work_min) × ((y : ℕ) → like ≡ Some y → (base ≤ y) × (y ≤ base + trees_max)) × (at < work_min) }
     ensures { Linked work.old work.new like at }
 {
-    if like != 0 {
+    if let Some(like) = like {
         put_two(work, like - Index::NEXT, at);
     }
 }

@@ -3,4 +3,5 @@
 #![tactic(auto)]
 
 pub mod enter;
+pub mod front;
 pub mod index;

@@ -9,8 +9,8 @@ ghost use Rattle.keys.specs.Keys.{FewPairs, SourcedIs, SameSourceIs, SubsetIs, A
 ghost use Rattle.keys.specs.KeyHash.{SourceHashIs, KeyHashIs};
 ghost use Rattle.paths.specs.Hash.{hash_limit};
 
-use areas::area::field_end;
 use areas::span::Span;
+use format::fields::fields_in;
 use paths::equality::same_values;
 use paths::hash::hash_path;
 use paths::path::present;
@@ -38,16 +38,12 @@ pub fn subset(query: &[u8], keys: Span, area: &[u8], tree: Span) -> usize
     requires { OkAt FewPairs pairs_bytes query.now keys × HoldsAt tree_bytes area.now tree }
     ensures { SubsetIs query.now keys area.now tree result }
 {
-    let end = keys.to;
     let mut sum: usize = 0;
     let mut weight: usize = 1;
-    let mut at = keys.from;
-    while at != end {
-        let next = field_end(query, at);
-        let there = sourced(query, Span { from: at, to: next }, area, tree);
+    for pair in fields_in(query, keys) {
+        let there = sourced(query, pair, area, tree);
         sum = sum + counted(there, weight);
         weight = weight + weight;
-        at = next;
     }
     sum
 }
@@ -80,14 +76,10 @@ pub fn same_key<'a>(
     requires { HoldsAt pairs_bytes query.now keys × HoldsAt tree_bytes area.now tree × HoldsAt tree_bytes area2.now tree2 }
     ensures { AlikeIs query.now keys area.now tree area2.now tree2 result }
 {
-    let end = keys.to;
-    let mut at = keys.from;
-    while at != end {
-        let m = field_end(query, at);
-        if !same_source(query, Span { from: at, to: m }, area, tree, area2, tree2) {
+    for pair in fields_in(query, keys) {
+        if !same_source(query, pair, area, tree, area2, tree2) {
             return false;
         }
-        at = m;
     }
     true
 }
@@ -106,13 +98,9 @@ pub fn key_hash(query: &[u8], keys: Span, area: &[u8], tree: Span) -> usize
     requires { HoldsAt pairs_bytes query.now keys × HoldsAt tree_bytes area.now tree }
     ensures { KeyHashIs query.now keys area.now tree result × (result < hash_limit) }
 {
-    let end = keys.to;
     let mut h: usize = 0;
-    let mut at = keys.from;
-    while at != end {
-        let m = field_end(query, at);
-        h = hash_source(query, Span { from: at, to: m }, area, tree, h);
-        at = m;
+    for pair in fields_in(query, keys) {
+        h = hash_source(query, pair, area, tree, h);
     }
     h
 }
@@ -122,12 +110,9 @@ pub fn subsets(query: &[u8], keys: Span) -> usize
     requires { OkAt FewPairs pairs_bytes query.now keys }
     ensures { SubsetsIs query.now keys result }
 {
-    let end = keys.to;
     let mut n: usize = 1;
-    let mut at = keys.from;
-    while at != end {
+    for _pair in fields_in(query, keys) {
         n = n + n;
-        at = field_end(query, at);
     }
     n
 }

@@ -1,11 +1,10 @@
 -- What a lookup asks of the area, and what it makes there: of a tree, in its own place.
 use Rattle.std.specs.Prelude.{List, [], ◌∷◌, ℕ, ◌+◌, ◌*◌, ◌≤◌, length}
-use Rattle.areas.specs.declared.area.Out.{Out}
 use Rattle.spec_trees.specs.Limits.{tree_max, depth_max, work_min}
 use Rattle.spec_trees.specs.Tree.{Tree}
 use Rattle.spec_trees.specs.Bytes.{tree_bytes}
 use Rattle.spec_trees.specs.Within.{Allowed, AllowedA}
-use Rattle.areas.specs.Area.{IsAt, Wrote}
+use Rattle.areas.specs.Area.{IsAt, Wrote, Out}
 use Rattle.areas.specs.declared.span.Span.{Span}
 use Rattle.spec_queries.specs.Query.{Path, Route}
 use Rattle.spec_queries.specs.Rules.{OkP⁺, OkRoute}

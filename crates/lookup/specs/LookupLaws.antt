@@ -1,10 +1,8 @@
 -- Laws of lookup: the joined trees that match, one by one, and their place, added to the tree.
-use Rattle.std.specs.Prelude.{◌≡◌, List, [], ◌∷◌, ◌++◌, Bool, true, false, cond, ℕ, ◌+◌, ◌-◌, ◌*◌, ◌≤◌, length, take, drop}
+use Rattle.std.specs.Prelude.{◌≡◌, List, [], ◌∷◌, ◌++◌, Bool, true, false, cond, ℕ, ◌+◌, ◌-◌, ◌≤◌, length, take, drop, Some, Ok as At, Err}
 use Rattle.std.proofs.Math.Path.{refl, ap, subst}
 use Rattle.std.proofs.Common.{sym, ◌∙◌, arith}
 use Rattle.std.proofs.Math.Option.{some}
-use Rattle.areas.specs.declared.area.Out.{Out}
-use Rattle.areas.specs.declared.area.Out.TheVariants.{At, TooLarge}
 use Rattle.spec_trees.specs.Limits.{tree_max, depth_max}
 use Rattle.spec_trees.specs.Lists.{All, filter}
 use Rattle.spec_trees.specs.ListLaws.{All-imply}
@@ -12,8 +10,7 @@ use Rattle.spec_trees.specs.Tree.{Tree}
 use Rattle.spec_trees.specs.SizeLaws.{length_tree}
 use Rattle.spec_trees.specs.Bytes.{bytes, tree_fs, tree_bytes}
 use Rattle.spec_trees.specs.Within.{Ok, Allowed, AllowedA}
-use Rattle.areas.specs.Area.{Is, Wrote, field_end, IsAt, span}
-use Rattle.areas.specs.declared.span.Span.{Span}
+use Rattle.areas.specs.Area.{Is, Wrote, field_end, IsAt, span, Out, too_large}
 use Rattle.areas.specs.AreaLaws.{is_part_lem, is_keep, wrote_none, wrote_fail, wrote_seq, wrote_keep}
 use Rattle.spec_queries.specs.Query.{Path, Route}
 use Rattle.spec_queries.specs.Rules.{OkP⁺}
@@ -30,8 +27,7 @@ use Rattle.lookup.specs.Matching.{JoinsIs}
 use Rattle.place.specs.Place.{place_room, room_at}
 use Rattle.place.specs.PlaceLaws.{room_all}
 use Rattle.build.specs.Build.{Standing}
-use Rattle.data.specs.declared.value.Value.{Value}
-use Rattle.data.specs.Value.{WroteFound, value_of}
+use Rattle.data.specs.Value.{Value, WroteFound, value_of}
 use Rattle.data.specs.ValueLaws.{value_array}
 use Rattle.build.specs.Made.{Adding, Adds, ValueReady, PlacesValue}
 use Rattle.lookup.specs.Lookup.{LookupReady, Looks, Matching, CopiesMatch, CopiesPartners}
@@ -119,13 +115,13 @@ module _ {w q : List ℕ} (at : LookupAt) {a b : ℕ} {j : List ℕ} {x xe d sto
           }
 
     module _ {v : List ℕ} {o : Out} (k : CopiesMatch w v q at (span a b) j (span x m) (span d stop) o) where
-      pub partners_stop : o ≡ TooLarge → CopiesPartners w v q at (span a b) j (span x xe) (span d stop) TooLarge
+      pub partners_stop : o ≡ Err too_large → CopiesPartners w v q at (span a b) j (span x xe) (span d stop) (Err too_large)
       partners_stop y own other tree ys ho hr ot ht oy hy =
           let c = array_parts ys z n hy in
           let oj = subst AllowedA c.same oy in
           let i = k own other tree c.first ho hr ot ht oj.0 c.first_is in
-          subst (λ l. Wrote w v d stop (array_trees (partners own other l tree)) TooLarge) (sym c.same)
-          (subst (λ l. Wrote w v d stop l TooLarge) (sym (partners_first own other c.first c.rest tree))
+          subst (λ l. Wrote w v d stop (array_trees (partners own other l tree)) (Err too_large)) (sym c.same)
+          (subst (λ l. Wrote w v d stop l (Err too_large)) (sym (partners_first own other c.first c.rest tree))
           (wrote_fail i (array_trees (partners own other c.rest tree)) y))
 
       pub partners_next : {e : ℕ} → b ≤ d → d ≤ length w → o ≡ At e → (v2 : List ℕ) (r : Out)
@@ -139,9 +135,9 @@ module _ {w q : List ℕ} (at : LookupAt) {a b : ℕ} {j : List ℕ} {x xe d sto
           (wrote_seq i l2 y (k2 own other tree c.rest ho hr ot (is_keep ht (wrote_keep i l2) l) oj.1 c.rest_is)))
 
 -- ---- the place of those that match, added to the tree
-value_at : {e : ℕ} (r : Out) → value_of r ≡ Value.At e → r ≡ At e
+value_at : {e : ℕ} (r : Out) → value_of r ≡ At (Some e) → r ≡ At e
 value_at (At e) q = cc
-value_at TooLarge q = let y : ◌≡◌ {A = ℕ} 0 1 = cc in absurd (omega arith)
+value_at (Err _) q = let y : ◌≡◌ {A = ℕ} 0 1 = cc in absurd (omega arith)
 
 tree_within : {w : List ℕ} {a b : ℕ} (t : Tree) → Allowed depth_max t → Is w a b (tree_bytes t) → b ≤ a + tree_max
 tree_within t o h = omega (arith, h.ends, length_tree t, o.small)

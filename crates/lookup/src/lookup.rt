@@ -7,10 +7,9 @@ ghost use Rattle.queries.specs.Places.{array_trees};
 ghost use Rattle.lookup.specs.Lookup.{Matching, CopiesMatch, CopiesPartners, LookupReady, Looks};
 
 use crate::matching::joins;
-use areas::area::{Out, copy_in, field_end};
+use areas::area::{TooLarge, copy_in, field_end};
 use areas::span::Span;
 use build::part::{add_written, place_value};
-use data::value::value_of;
 use format::limits::Limits;
 use place::place::heads_room;
 use queries::stage::LookupAt;
@@ -24,7 +23,7 @@ fn copy_match<'a>(
     joined: &'a [u8],
     other: Span,
     room: Span,
-) -> Out
+) -> Result<usize, TooLarge>
     requires { Matching (Allowed depth_max) tree_bytes work.old query.now at tree joined.now other room }
     ensures { CopiesMatch work.old work.new query.now at tree joined.now other room result }
 {
@@ -33,7 +32,7 @@ fn copy_match<'a>(
         let to = other.to;
         return copy_in(work, &joined[from..to], room);
     }
-    Out::At(room.from)
+    Ok(room.from)
 }
 
 /// Copies those of the joined trees that match the tree into the room, in their order.
@@ -45,7 +44,7 @@ fn copy_partners<'a>(
     joined: &'a [u8],
     trees: Span,
     room: Span,
-) -> Out
+) -> Result<usize, TooLarge>
     requires { Matching AllowedA array_trees work.old query.now at tree joined.now trees room }
     ensures { CopiesPartners work.old work.new query.now at tree joined.now trees room result }
 {
@@ -55,7 +54,7 @@ fn copy_partners<'a>(
     let mut to = room.from;
     while from != end {
         let m = field_end(joined, from);
-        let one = copy_match(
+        let e = copy_match(
             work,
             query,
             at,
@@ -63,14 +62,11 @@ fn copy_partners<'a>(
             joined,
             Span { from, to: m },
             Span { from: to, to: stop },
-        );
-        let Out::At(e) = one else {
-            return Out::TooLarge;
-        };
+        )?;
         to = e;
         from = m;
     }
-    Out::At(to)
+    Ok(to)
 }
 
 /// Makes, in the place of the tree, its merge with the place of all joined trees that match it. In the query stand the
@@ -82,7 +78,7 @@ pub fn lookup<'a>(
     tree: Span,
     joined: &'a [u8],
     trees: Span,
-) -> Out
+) -> Result<usize, TooLarge>
     requires { LookupReady work.old query.now at tree joined.now trees }
     ensures { Looks work.old work.new query.now at tree joined.now trees result }
 {
@@ -91,6 +87,6 @@ pub fn lookup<'a>(
     let n = heads_room(query, at.target);
     let inner = Span { from: from + n, to };
     let all = copy_partners(work, query, at, tree, joined, trees, inner);
-    let placed = place_value(work, query, at.target, Span { from, to }, value_of(all));
+    let placed = place_value(work, query, at.target, Span { from, to }, all.map(Some));
     add_written(work, tree, placed)
 }

@@ -1,12 +1,11 @@
 -- What the writers of a merge ask and do, where both values stand in the area that they write to.
 use Rattle.std.specs.Prelude.{List, ℕ, ◌≤◌, length}
-use Rattle.areas.specs.declared.area.Out.{Out}
 use Rattle.areas.specs.declared.span.Span.{Span}
 use Rattle.spec_trees.specs.Limits.{work_min}
 use Rattle.spec_trees.specs.Tree.{Tree}
 use Rattle.spec_trees.specs.Bytes.{tree_bytes}
 use Rattle.spec_trees.specs.Within.{Ok}
-use Rattle.areas.specs.Area.{IsAt, Wrote}
+use Rattle.areas.specs.Area.{IsAt, Wrote, Out}
 use Rattle.format.specs.Stand.{Holds, entry_bytes}
 use Rattle.spec_stages.specs.Merge.{merge}
 use Rattle.spec_stages.specs.MergeTwo.{Entry}

@@ -1,14 +1,12 @@
 -- The merge of two values where they stand, step by step: what each function of the merge asks of the next, and what
 -- it has written when that one has.
-use Rattle.std.specs.Prelude.{◌≡◌, List, [], ◌∷◌, ◌++◌, Bool, true, false, cond, ℕ, ◌+◌, ◌-◌, ◌≤◌, ◌<◌, length, take, drop, get_or, ltb}
+use Rattle.std.specs.Prelude.{◌≡◌, List, ◌++◌, Bool, true, false, cond, ℕ, ◌+◌, ◌-◌, ◌≤◌, ◌<◌, length, take, drop, get_or, ltb, Ok, Err}
 use Rattle.std.proofs.Math.Path.{refl, subst}
 use Rattle.std.proofs.Common.{sym, ap, ap₂, ◌∙◌, arith}
 use borrow.Author.Tests.{lt-ltb, le-ltb}
-use Rattle.areas.specs.declared.area.Out.{Out}
-use Rattle.areas.specs.declared.area.Out.TheVariants.{At, TooLarge}
 use Rattle.spec_trees.specs.Tree.{Root, void, boolean, integer, text, Tree, node, Trees, ◌▹◌, Labels, label, root, labels}
 use Rattle.spec_trees.specs.Bytes.{field_bytes, bytes, root_f, tree_f, tree_bytes, label_heads, label_of}
-use Rattle.areas.specs.Area.{Is, Wrote, span, head_bytes, field_end, Finishable, Finished}
+use Rattle.areas.specs.Area.{Is, Wrote, span, head_bytes, field_end, Finishable, Finished, Out, too_large}
 use Rattle.areas.specs.AreaLaws.{is_keep, is_tag, length_field, told, no_room, wrote_keep, wrote_fail, wrote_seq, fail_back, is_copied, finishable}
 use Rattle.format.specs.Labels.{label_at, trees_at}
 use Rattle.format.specs.Stand.{root_bytes, labels_bytes, trees_bytes, Holds}
@@ -44,12 +42,12 @@ Turns {A} f m w v i i' ie j j' je d stop q = (x y : A) → Is w i ie (f x) → I
 module _ {A : Type 0} {f : A → List ℕ} {m : A → A → A} {w v : List ℕ} {i i' ie j j' je d stop : ℕ} {q : Out}
     (turn : Turns f m w v i i' ie j j' je d stop q) where
   -- they did not fit
-  pub turn_fail : q ≡ TooLarge → Merged f m w v (span i ie) (span j je) (span d stop) TooLarge
+  pub turn_fail : q ≡ Err too_large → Merged f m w v (span i ie) (span j je) (span d stop) (Err too_large)
   turn_fail z x y hx hy =
       let t = turn x y hx hy in
-      subst (λ l. Wrote w v d stop l TooLarge) (sym t.same) (wrote_fail t.wrote (f (m t.left t.right)) z)
+      subst (λ l. Wrote w v d stop l (Err too_large)) (sym t.same) (wrote_fail t.wrote (f (m t.left t.right)) z)
 
-  module _ {e : ℕ} (h : MergeReady f w (span i ie) (span j je) (span d stop)) (z : q ≡ At e) where
+  module _ {e : ℕ} (h : MergeReady f w (span i ie) (span j je) (span d stop)) (z : q ≡ Ok e) where
     -- whatever is right for the rest is right for the whole
     pub turn_next : {u : List ℕ} {r : Out} → Merged f m v u (span i' ie) (span j' je) (span e stop) r → Merged f m w u (span i ie) (span j je) (span d stop) r
     turn_next {u} {r} k x y hx hy =
@@ -107,7 +105,7 @@ tree_bytes_lem : (x y : Tree) → tree_bytes (merge_two x y) ≡ field_bytes (2,
 unfolding tree_bytes tree_f bytes merge_two
 tree_bytes_lem (node r ls) (node q ms) = refl
 
-pub tree_no_room : (w : List ℕ) (s se t te d stop : ℕ) → stop < d + 3 → Merged tree_bytes merge_two w w (span s se) (span t te) (span d stop) TooLarge
+pub tree_no_room : (w : List ℕ) (s se t te d stop : ℕ) → stop < d + 3 → Merged tree_bytes merge_two w w (span s se) (span t te) (span d stop) (Err too_large)
 tree_no_room w s se t te d stop q x y hx hy =
     no_room w d stop (tree_bytes (merge_two x y)) (omega (arith, ap length (tree_bytes_lem x y), length_field (2, content x y)))
 
@@ -131,13 +129,13 @@ module _ {w : List ℕ} {s sl se t tl te d stop : ℕ} (h : MergeReady tree_byte
     tree_root : (x y : Tree) → Is w s se (tree_bytes x) → Is w t te (tree_bytes y) → Wrote w v (d + 3) stop (root_bytes (merge_root (root x) (root y))) r
     tree_root x y hx hy = k (root x) (root y) (tree_parts x gs hx).root_is (tree_parts y gt hy).root_is
 
-    pub tree_fail : r ≡ TooLarge → Merged tree_bytes merge_two w v (span s se) (span t te) (span d stop) TooLarge
+    pub tree_fail : r ≡ Err too_large → Merged tree_bytes merge_two w v (span s se) (span t te) (span d stop) (Err too_large)
     unfolding field_bytes
     tree_fail z x y hx hy =
-        subst (λ l. Wrote w v d stop l TooLarge) (sym (tree_bytes_lem x y))
+        subst (λ l. Wrote w v d stop l (Err too_large)) (sym (tree_bytes_lem x y))
         (fail_back (wrote_fail (tree_root x y hx hy) (labels_bytes (merge_two_l (labels x) (labels y))) z) (head_bytes 2 (length (content x y))) refl refl)
 
-    module _ {e : ℕ} (z : r ≡ At e) where
+    module _ {e : ℕ} (z : r ≡ Ok e) where
       pub ready_labels : length v ≡ length w → MergeReady labels_bytes v (span sl se) (span tl te) (span e stop)
       ready_labels l =
           let x = tree_parts h.first.value gs h.first.value_is in
@@ -294,7 +292,7 @@ entry_both {w} {v} {d = d} {stop = stop} {r = r} ex ey a b k p q hp hq =
 heads_are : {w : List ℕ} {i ie x n : ℕ} → x ≡ trees_at w i → n ≡ x - i → (p : Entry) → Is w i ie (entry_of p) → (n ≡ label_heads p.0) × (x ≡ i + label_heads p.0)
 heads_are ex en p hp = let e = entry_parts p.0 p.1 hp in (omega (arith, e.trees_at_lem), omega (arith, e.trees_at_lem))
 
-pub entry_no_room : {w : List ℕ} {i x n : ℕ} (ie j je d stop : ℕ) → x ≡ trees_at w i → n ≡ x - i → stop < d + n → Merged entry_of merge_entry w w (span i ie) (span j je) (span d stop) TooLarge
+pub entry_no_room : {w : List ℕ} {i x n : ℕ} (ie j je d stop : ℕ) → x ≡ trees_at w i → n ≡ x - i → stop < d + n → Merged entry_of merge_entry w w (span i ie) (span j je) (span d stop) (Err too_large)
 unfolding merge_entry
 entry_no_room {w} ie j je d stop ex en l p q hp hq =
     let ts = trees_bytes (merge_two_a p.1 q.1) in
@@ -312,12 +310,12 @@ module _ {w : List ℕ} {i ie j je d stop x n y tag : ℕ} {w1 : List ℕ} {r1 :
       let z : i + label_heads p.0 - 3 ≡ x - 3 = omega (arith, heads_are ex en p hp) in
       is_copied (subst (λ m. Is w (i + 3) m (label_of p.0)) z (entry_parts p.0 p.1 hp).bytes_is) c
 
-  label_fits : (p : Entry) → Is w i ie (entry_of p) → r1 ≡ At (d + n - 3)
+  label_fits : (p : Entry) → Is w i ie (entry_of p) → r1 ≡ Ok (d + n - 3)
   label_fits p hp =
       let k = label_copied p hp in
       let m = heads_are ex en p hp in
       told r1
-      (λ e q. let g = k.fits e q in let z : e ≡ d + n - 3 = omega (arith, g.ends, length_label p.0, m) in q ∙ ap At z)
+      (λ e q. let g = k.fits e q in let z : e ≡ d + n - 3 = omega (arith, g.ends, length_label p.0, m) in q ∙ ap Ok z)
       (λ q. absurd (omega (arith, (k.large q).over, length_label p.0, m)))
 
   kept : take (d + 3) w1 ≡ take (d + 3) w

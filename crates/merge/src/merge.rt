@@ -8,12 +8,12 @@ ghost use Rattle.spec_stages.specs.Merge.{merge_root};
 ghost use Rattle.spec_stages.specs.MergeTwo.{merge_two, merge_two_l, merge_two_a, merge_entry, merge_first};
 ghost use Rattle.merge.specs.MergeBytes.{MergeReady, Merged, TreesMerged, entry_of};
 
-use areas::area::{Out, copy, field_end, finish};
+use areas::area::{TooLarge, copy, field_end, finish};
 use areas::span::Span;
 use format::labels::{heads, label_at, trees_at};
 
 /// Merges two trees, which both stand below the room, and writes the merge there.
-pub fn merge_tree(work: &mut [u8], one: Span, other: Span, room: Span) -> Out
+pub fn merge_tree(work: &mut [u8], one: Span, other: Span, room: Span) -> Result<usize, TooLarge>
     requires { MergeReady tree_bytes work.old one other room }
     ensures { TreesMerged work.old work.new one other room result }
 {
@@ -21,7 +21,7 @@ pub fn merge_tree(work: &mut [u8], one: Span, other: Span, room: Span) -> Out
 }
 
 /// The root of the second tree, unless it is void.
-fn merge_root(work: &mut [u8], one: Span, other: Span, room: Span) -> Out
+fn merge_root(work: &mut [u8], one: Span, other: Span, room: Span) -> Result<usize, TooLarge>
     requires { MergeReady root_bytes work.old one other room }
     ensures { Merged root_bytes merge_root work.old work.new one other room result }
 {
@@ -35,7 +35,7 @@ fn merge_root(work: &mut [u8], one: Span, other: Span, room: Span) -> Out
 
 /// The merge of two trees: a root and labels.
 #[cycle(merging)]
-fn merge_node(work: &mut [u8], one: Span, other: Span, room: Span) -> Out
+fn merge_node(work: &mut [u8], one: Span, other: Span, room: Span) -> Result<usize, TooLarge>
     requires { MergeReady tree_bytes work.old one other room }
     ensures { Merged tree_bytes merge_two work.old work.new one other room result }
 {
@@ -43,22 +43,19 @@ fn merge_node(work: &mut [u8], one: Span, other: Span, room: Span) -> Out
     let end2 = other.to;
     let stop = room.to;
     if stop - room.from < 3 {
-        return Out::TooLarge;
+        return Err(TooLarge);
     }
     let s = one.from + 3;
     let t = other.from + 3;
     let d = room.from + 3;
     let m = field_end(work, s);
     let n = field_end(work, t);
-    let root = merge_root(
+    let e = merge_root(
         work,
         Span { from: s, to: m },
         Span { from: t, to: n },
         Span { from: d, to: stop },
-    );
-    let Out::At(e) = root else {
-        return Out::TooLarge;
-    };
+    )?;
     let all = merge_labels(
         work,
         Span { from: m, to: end },
@@ -77,7 +74,7 @@ fn choose(label: u16, bound: u16, below: usize, otherwise: usize) -> usize
 
 /// All labels of both. The place of the greater of two labels stays as it is.
 #[cycle(merging)]
-fn merge_labels(work: &mut [u8], one: Span, other: Span, room: Span) -> Out
+fn merge_labels(work: &mut [u8], one: Span, other: Span, room: Span) -> Result<usize, TooLarge>
     requires { MergeReady labels_bytes work.old one other room }
     ensures { Merged labels_bytes merge_two_l work.old work.new one other room result }
 {
@@ -96,10 +93,7 @@ fn merge_labels(work: &mut [u8], one: Span, other: Span, room: Span) -> Out
         let n = field_end(work, q);
         let x = label_at(work, p);
         let y = label_at(work, q);
-        let first = merge_first(work, Span { from: p, to: m }, Span { from: q, to: n }, left);
-        let Out::At(e) = first else {
-            return Out::TooLarge;
-        };
+        let e = merge_first(work, Span { from: p, to: m }, Span { from: q, to: n }, left)?;
         p = choose(y, x, p, m);
         q = choose(x, y, q, n);
         at = e;
@@ -110,7 +104,7 @@ fn merge_labels(work: &mut [u8], one: Span, other: Span, room: Span) -> Out
 
 /// The first label of a merge, with its array: the lesser of two, or both merged.
 #[cycle(merging)]
-fn merge_first(work: &mut [u8], one: Span, other: Span, room: Span) -> Out
+fn merge_first(work: &mut [u8], one: Span, other: Span, room: Span) -> Result<usize, TooLarge>
     requires { MergeReady entry_of work.old one other room }
     ensures { Merged entry_of merge_first work.old work.new one other room result }
 {
@@ -128,7 +122,7 @@ fn merge_first(work: &mut [u8], one: Span, other: Span, room: Span) -> Out
 /// A label that both have, with the two arrays merged. The label is copied as it stands, and n bytes go before the
 /// trees.
 #[cycle(merging)]
-fn merge_entry(work: &mut [u8], one: Span, other: Span, room: Span) -> Out
+fn merge_entry(work: &mut [u8], one: Span, other: Span, room: Span) -> Result<usize, TooLarge>
     requires { MergeReady entry_of work.old one other room }
     ensures { Merged entry_of merge_entry work.old work.new one other room result }
 {
@@ -141,7 +135,7 @@ fn merge_entry(work: &mut [u8], one: Span, other: Span, room: Span) -> Out
     let x = i + n;
     let y = trees_at(work, other.from);
     if stop - d < n {
-        return Out::TooLarge;
+        return Err(TooLarge);
     }
     let at = d + n;
     let tag = work[i];
@@ -153,7 +147,7 @@ fn merge_entry(work: &mut [u8], one: Span, other: Span, room: Span) -> Out
         from: d + 3,
         to: stop,
     };
-    copy(work, label, front);
+    let _ = copy(work, label, front);
     let trees = merge_trees(
         work,
         Span { from: x, to: end },
@@ -166,7 +160,7 @@ fn merge_entry(work: &mut [u8], one: Span, other: Span, room: Span) -> Out
 
 /// Two arrays position by position, and the surplus of the longer.
 #[cycle(merging)]
-fn merge_trees(work: &mut [u8], one: Span, other: Span, room: Span) -> Out
+fn merge_trees(work: &mut [u8], one: Span, other: Span, room: Span) -> Result<usize, TooLarge>
     requires { MergeReady trees_bytes work.old one other room }
     ensures { Merged trees_bytes merge_two_a work.old work.new one other room result }
 {
@@ -183,10 +177,7 @@ fn merge_trees(work: &mut [u8], one: Span, other: Span, room: Span) -> Out
         }
         let m = field_end(work, a);
         let n = field_end(work, b);
-        let first = merge_node(work, Span { from: a, to: m }, Span { from: b, to: n }, left);
-        let Out::At(e) = first else {
-            return Out::TooLarge;
-        };
+        let e = merge_node(work, Span { from: a, to: m }, Span { from: b, to: n }, left)?;
         a = m;
         b = n;
         at = e;

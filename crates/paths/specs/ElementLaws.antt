@@ -1,5 +1,5 @@
 -- How many trees a path gives, and where each of them stands, tree by tree.
-use Rattle.std.specs.Prelude.{◌≡◌, refl, List, [], ◌∷◌, ◌++◌, ℕ, ◌+◌, ◌-◌, ◌≤◌, length, get_or}
+use Rattle.std.specs.Prelude.{◌≡◌, refl, List, [], ◌∷◌, ◌++◌, ℕ, ◌+◌, ◌-◌, ◌≤◌, length, get_or, Ok, Err}
 use Rattle.std.proofs.Common.{sym, ap, ◌∙◌, arith, length-append, get_or-append-add}
 use Rattle.std.proofs.Math.Path.{subst}
 use Rattle.std.proofs.Math.Option.{none, some}
@@ -8,9 +8,7 @@ use Rattle.spec_trees.specs.Tree.{Tree, bare_void}
 use Rattle.spec_trees.specs.Bytes.{tree_bytes}
 use Rattle.areas.specs.Area.{Is, field_end, IsAt, span}
 use Rattle.areas.specs.declared.span.Span.{Span}
-use Rattle.paths.specs.declared.path.Element.{Element}
-use Rattle.paths.specs.declared.path.Element.TheVariants.{Part, Fewer}
-use Rattle.paths.specs.Walk.{given, Walk, Tells, TellsJoined, PartIs, ElementIs}
+use Rattle.paths.specs.Walk.{given, Walk, Tells, TellsJoined, PartIs, ElementIs, Element}
 use Rattle.paths.specs.WalkLaws.{given_join, joined_end, joined_next}
 
 -- ---- how many
@@ -34,13 +32,13 @@ module _ (q : List ℕ) (p : Span) (i : ℕ) (s : List ℕ) (a b n : ℕ) where
       (λ x y u w. omega (arith, u, w, ap length (given_join x y), length-append (given x) (given y))) f
 
 -- ---- where each stands
-part_is : {s : List ℕ} {a b j : ℕ} {f : Span} {xs : List Tree} → PartIs s (span a b) j xs f → ElementIs s (span a b) j xs (Part f)
+part_is : {s : List ℕ} {a b j : ℕ} {f : Span} {xs : List Tree} → PartIs s (span a b) j xs f → ElementIs s (span a b) j xs (Ok f)
 part_is {s} {a} {b} {j} {f} {xs} h = record {
   part = λ g q. let y : f ≡ g = cc in subst (PartIs s (span a b) j xs) y h;
   fewer = λ n q. let z : ◌≡◌ {A = ℕ} 0 1 = cc in absurd (omega arith);
 }
 
-fewer_is : (s : List ℕ) (a b : ℕ) {j n : ℕ} {xs : List Tree} → j ≡ length xs + n → ElementIs s (span a b) j xs (Fewer n)
+fewer_is : (s : List ℕ) (a b : ℕ) {j n : ℕ} {xs : List Tree} → j ≡ length xs + n → ElementIs s (span a b) j xs (Err n)
 fewer_is s a b {j} {n} {xs} h = record {
   part = λ x q. let z : ◌≡◌ {A = ℕ} 0 1 = cc in absurd (omega arith);
   fewer = λ k q. let z : n ≡ k = cc in omega arith;
@@ -48,7 +46,7 @@ fewer_is s a b {j} {n} {xs} h = record {
 
 -- of one tree, and of none
 module _ (s : List ℕ) (a b j : ℕ) where
-  pub element_one : j ≡ 0 → (t : Tree) → Is s a b (tree_bytes t) → ElementIs s (span a b) j (given (some (t ∷ []))) (Part (span a b))
+  pub element_one : j ≡ 0 → (t : Tree) → Is s a b (tree_bytes t) → ElementIs s (span a b) j (given (some (t ∷ []))) (Ok (span a b))
   unfolding given
   element_one z t h = part_is record {
     below = omega arith;
@@ -57,11 +55,11 @@ module _ (s : List ℕ) (a b j : ℕ) where
     within = omega arith;
   }
 
-  pub element_past : (j ≡ 0 → ⊥) → (t : Tree) → ElementIs s (span a b) j (given (some (t ∷ []))) (Fewer (j - 1))
+  pub element_past : (j ≡ 0 → ⊥) → (t : Tree) → ElementIs s (span a b) j (given (some (t ∷ []))) (Err (j - 1))
   unfolding given
   element_past z t = fewer_is s a b (omega arith)
 
-  pub element_none : ElementIs s (span a b) j (given none) (Fewer j)
+  pub element_none : ElementIs s (span a b) j (given none) (Err j)
   unfolding given
   element_none = fewer_is s a b (omega arith)
 
@@ -95,18 +93,18 @@ module _ {s : List ℕ} {a b j : ℕ} (xs ys : List Tree) where
   }
 
 module _ (q : List ℕ) (p : Span) (i : ℕ) (s : List ℕ) (a b j : ℕ) where
-  pub element_end : a ≡ b → TellsJoined q p i s (span a b) (λ x. ElementIs s (span a b) j (given x) (Fewer j))
-  element_end z = joined_end q p i s a b (λ x. ElementIs s (span a b) j (given x) (Fewer j)) z (element_none s a b j)
+  pub element_end : a ≡ b → TellsJoined q p i s (span a b) (λ x. ElementIs s (span a b) j (given x) (Err j))
+  element_end z = joined_end q p i s a b (λ x. ElementIs s (span a b) j (given x) (Err j)) z (element_none s a b j)
 
   module _ {m : ℕ} (z : a ≡ b → ⊥) (g : m ≡ field_end s a) (l : a ≤ m) (u : m ≤ b) {o : Element} (k : Tells q p i s (span a m) (λ x. ElementIs s (span a m) j (given x) o)) where
-    pub element_here : (r : Element) {f : Span} → o ≡ r → o ≡ Part f → TellsJoined q p i s (span a b) (λ x. ElementIs s (span a b) j (given x) r)
+    pub element_here : (r : Element) {f : Span} → o ≡ r → o ≡ Ok f → TellsJoined q p i s (span a b) (λ x. ElementIs s (span a b) j (given x) r)
     element_here r {f} d w =
         joined_next q p i s a b (λ x. ElementIs s (span a m) j (given x) o) (λ x. Unit {0}) (λ x. ElementIs s (span a b) j (given x) r) z g
         (λ x y c _. subst (λ n. ElementIs s (span a b) j n r) (sym (given_join x y))
         (subst (ElementIs s (span a b) j (given x ++ given y)) (sym w ∙ d) (part_is (element_left (given x) (given y) ((element_within {a = a} {b = b} (omega arith) u c).part f w)))))
         k (λ path ts h c. tt)
 
-    pub element_next : {n : ℕ} → o ≡ Fewer n → (r : Element) → TellsJoined q p i s (span m b) (λ x. ElementIs s (span m b) n (given x) r) → TellsJoined q p i s (span a b) (λ x. ElementIs s (span a b) j (given x) r)
+    pub element_next : {n : ℕ} → o ≡ Err n → (r : Element) → TellsJoined q p i s (span m b) (λ x. ElementIs s (span m b) n (given x) r) → TellsJoined q p i s (span a b) (λ x. ElementIs s (span a b) j (given x) r)
     element_next {n} w r =
         joined_next q p i s a b (λ x. ElementIs s (span a m) j (given x) o) (λ x. ElementIs s (span m b) n (given x) r) (λ x. ElementIs s (span a b) j (given x) r) z g
         (λ x y c d. subst (λ l. ElementIs s (span a b) j l r) (sym (given_join x y))
@@ -114,7 +112,7 @@ module _ (q : List ℕ) (p : Span) (i : ℕ) (s : List ℕ) (a b j : ℕ) where
 
 -- the part is inside
 pub element_span : {q : List ℕ} {p : Span} {i : ℕ} {s : List ℕ} {a b j : ℕ} {f : Span} {r : Element} → Walk tree_bytes q p i s (span a b)
-    → Tells q p i s (span a b) (λ x. ElementIs s (span a b) j (given x) r) → r ≡ Part f → (f.from ≤ f.to) × (f.to ≤ length s)
+    → Tells q p i s (span a b) (λ x. ElementIs s (span a b) j (given x) r) → r ≡ Ok f → (f.from ≤ f.to) × (f.to ≤ length s)
 element_span {f = f} w h z =
     let c = ((h w.path.value w.stands.value w.path.value_is w.stands.value_is).part f z).tree_is in
     (omega (arith, c.ends), c.inside)

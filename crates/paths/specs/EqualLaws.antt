@@ -1,15 +1,13 @@
 -- Applications compared by their bytes, and by the bytes of their trees.
-use Rattle.std.specs.Prelude.{◌≡◌, refl, List, Bool, true, false, not, ◌&&◌, ℕ, ◌+◌, ◌-◌, ◌≤◌, ◌<◌, length, take, drop, get_or, eqb}
+use Rattle.std.specs.Prelude.{◌≡◌, refl, List, Bool, true, false, not, ◌&&◌, ℕ, ◌+◌, ◌-◌, ◌≤◌, ◌<◌, length, take, drop, get_or, eqb, Some, None, Ok, Err, is_none}
 use Rattle.std.proofs.Math.Path.{sym, ap, subst}
 use Rattle.std.proofs.Common.{ap₂, ◌∙◌, arith, eqb-true}
 use Rattle.std.proofs.Math.Option.{none, some}
 use Rattle.std.proofs.Math.Seq.{slice, take-length}
 use Rattle.std.proofs.lemmas.Bool.{eqb-false}
-use Rattle.format.specs.declared.labels.Found.{Found}
-use Rattle.format.specs.declared.labels.Found.TheVariants.{Part, Missing}
 use Rattle.spec_trees.specs.Tree.{Tree, list, trees, bare_void}
 use Rattle.spec_trees.specs.Bytes.{tree_bytes}
-use Rattle.areas.specs.Area.{Is, IsAt, span}
+use Rattle.areas.specs.Area.{Is, span}
 use Rattle.areas.specs.declared.span.Span.{Span}
 use Rattle.areas.specs.AreaLaws.{is_part_lem}
 use Rattle.spec_trees.specs.Lists.{same_bytes}
@@ -17,15 +15,12 @@ use Rattle.spec_trees.specs.ListLaws.{equal_same, same_equal}
 use Rattle.spec_trees.specs.SizeLaws.{trees_list}
 use Rattle.format.specs.Stand.{trees_bytes, ArrayIs, FoundIs}
 use Rattle.spec_trees.specs.Within.{AllowedA}
-use Rattle.paths.specs.declared.path.Element.{Element}
-use Rattle.paths.specs.declared.path.Element.TheVariants as element
-use Rattle.paths.specs.declared.path.Compared.{Compared}
-use Rattle.paths.specs.declared.path.Compared.TheVariants.{At, Differs}
 use Rattle.spec_stages.specs.Paths.{Given, present}
 use Rattle.spec_stages.specs.Equality.{same_given}
-use Rattle.paths.specs.Walk.{given, given_bytes, is_array, is_part, Walk, Tells, FoundInside, ElementIs, ComparedIs, OperandIs}
+use Rattle.paths.specs.Walk.{given, given_bytes, is_array, Walk, Tells, FoundInside, ElementIs, ComparedIs, OperandIs, Element, Compared}
 use Rattle.paths.specs.WalkLaws.{present_some, present_none}
 use Rattle.paths.specs.SameLaws.{absent_same, other_absent, present_same, length_equal, element_equal, elements_equal}
+use Rattle.format.specs.Labels.{Found}
 
 -- ---- bytes that are or are not the same
 module _ (xs ys : List ℕ) where
@@ -44,11 +39,11 @@ module _ (xs ys : List ℕ) where
 
 -- ---- all of o, looked for from its beginning
 module _ {o xs : List ℕ} {r : Compared} (h : ComparedIs o 0 xs r) where
-  pub gives_other : r ≡ Differs → false ≡ same_bytes xs o
+  pub gives_other : r ≡ None → false ≡ same_bytes xs o
   gives_other z = bytes_differ xs o (λ q. h.differs z (length o)
       record { lies = take-length o ∙ sym q; ends = omega (arith, ap length q); inside = omega arith })
 
-  pub gives_same : {n : ℕ} → r ≡ At n → eqb n (length o) ≡ same_bytes xs o
+  pub gives_same : {n : ℕ} → r ≡ Some n → eqb n (length o) ≡ same_bytes xs o
   gives_same {n} z = go (eqb n (length o)) refl
     where
       c : Is o 0 n xs
@@ -87,10 +82,10 @@ is_array_lem x a {o} {r} ox oa q e = go (present x) refl
 
 -- an application beside one that stands in one piece, or is absent
 module _ (x : Given) {y : Given} {s : List ℕ} {a b : ℕ} {found : Found} (h : FoundIs s (span a b) y found) where
-  pub piece_missing : {r : Bool} → found ≡ Missing → r ≡ present x → not r ≡ same_given x y
+  pub piece_missing : {r : Bool} → found ≡ None → r ≡ present x → not r ≡ same_given x y
   piece_missing z e = ap not e ∙ other_absent x y (ap present (h.missing z) ∙ sym present_none)
 
-  pub piece_same : {f t : ℕ} {o : List ℕ} {r : Bool} → found ≡ Part (span f t) → OperandIs s (span f t) o → AllowedA (given x) → AllowedA (given y) → r ≡ is_array x o → r ≡ same_given x y
+  pub piece_same : {f t : ℕ} {o : List ℕ} {r : Bool} → found ≡ Some (span f t) → OperandIs s (span f t) o → AllowedA (given x) → AllowedA (given y) → r ≡ is_array x o → r ≡ same_given x y
   unfolding given
   piece_same {f} {t} {o} {r} z k ox oy e =
       let c = h.part (span f t) z in
@@ -98,19 +93,19 @@ module _ (x : Given) {y : Given} {s : List ℕ} {a b : ℕ} {found : Found} (h :
       (is_array_lem x (list c.array) ox (subst (λ i. AllowedA (given i)) c.same oy) (k c.array c.array_is ∙ sym (ap trees_bytes (trees_list c.array))) e)
 
 -- two that stand in one piece, or are absent
-part_present : {x : Given} {s : List ℕ} {a b : ℕ} (found : Found) → FoundIs s (span a b) x found → is_part found ≡ present x
-part_present (Part at) h = present_some (list (h.part at refl).array) ∙ sym (ap present (h.part at refl).same)
-part_present Missing h = present_none ∙ sym (ap present (h.missing refl))
+none_absent : {x : Given} {s : List ℕ} {a b : ℕ} (found : Found) → FoundIs s (span a b) x found → is_none found ≡ not (present x)
+none_absent (Some at) h = ap not (present_some (list (h.part at refl).array) ∙ sym (ap present (h.part at refl).same))
+none_absent None h = ap not (present_none ∙ sym (ap present (h.missing refl)))
 
 module _ {x y : Given} {s : List ℕ} {a b : ℕ} {s2 : List ℕ} {a2 b2 : ℕ} {one other : Found} (h : FoundIs s (span a b) x one) (k : FoundIs s2 (span a2 b2) y other) where
-  pub pieces_missing : {r : Bool} → other ≡ Missing → r ≡ is_part one → not r ≡ same_given x y
-  pieces_missing z e = piece_missing x k z (e ∙ part_present one h)
+  pub pieces_missing : {r : Bool} → other ≡ None → r ≡ is_none one → r ≡ same_given x y
+  pieces_missing z e = e ∙ none_absent one h ∙ piece_missing x k z refl
 
-  module _ {g u : ℕ} (z : other ≡ Part (span g u)) (ox : AllowedA (given x)) (oy : AllowedA (given y)) where
-    pub pieces_other : one ≡ Missing → false ≡ same_given x y
+  module _ {g u : ℕ} (z : other ≡ Some (span g u)) (ox : AllowedA (given x)) (oy : AllowedA (given y)) where
+    pub pieces_other : one ≡ None → false ≡ same_given x y
     pieces_other m = piece_same x k z (λ ts i. is_part_lem i) ox oy (array_missing x (take (u - g) (drop g s2)) (h.missing m))
 
-    pub pieces_same : {f t : ℕ} {r : Bool} → one ≡ Part (span f t) → r ≡ same_bytes (take (t - f) (drop f s)) (take (u - g) (drop g s2)) → r ≡ same_given x y
+    pub pieces_same : {f t : ℕ} {r : Bool} → one ≡ Some (span f t) → r ≡ same_bytes (take (t - f) (drop f s)) (take (u - g) (drop g s2)) → r ≡ same_given x y
     pieces_same {f} {t} m e = piece_same x k z (λ ts i. is_part_lem i) ox oy (array_part x (take (u - g) (drop g s2)) (h.part (span f t) m) e)
 
 -- what a walk finds stands within the area
@@ -143,10 +138,10 @@ module _ (xs ys : List Tree) where
 
 -- the two trees, where they stand
 pub nth_same : {s s2 : List ℕ} {a b a2 b2 j : ℕ} {f g : Span} {xs ys : List Tree} {o o2 : Element} {r : Bool}
-    → ElementIs s (span a b) j xs o → ElementIs s2 (span a2 b2) j ys o2 → o ≡ element.Part f → o2 ≡ element.Part g
+    → ElementIs s (span a b) j xs o → ElementIs s2 (span a2 b2) j ys o2 → o ≡ Ok f → o2 ≡ Ok g
     → r ≡ same_bytes (take (f.to - f.from) (drop f.from s)) (take (g.to - g.from) (drop g.from s2)) → r ≡ same_bytes (tree_bytes (get_or xs j bare_void)) (tree_bytes (get_or ys j bare_void))
 nth_same {f = f} {g = g} h k z y e =
     e ∙ ap₂ same_bytes (is_part_lem (h.part f z).tree_is) (is_part_lem (k.part g y).tree_is)
 
-pub nth_fewer : {s : List ℕ} {a b j n : ℕ} {xs : List Tree} {o : Element} → ElementIs s (span a b) j xs o → o ≡ element.Fewer n → j < length xs → ⊥
+pub nth_fewer : {s : List ℕ} {a b j n : ℕ} {xs : List Tree} {o : Element} → ElementIs s (span a b) j xs o → o ≡ Err n → j < length xs → ⊥
 nth_fewer {n = n} h z l = omega (arith, h.fewer n z)

@@ -1,12 +1,10 @@
 -- How the number of a value is read where its bytes stand: byte by byte, tree by tree, and from piece to piece.
 use Rattle.std.proofs.Math.Path.{◌≡◌, sym, ap, ap₂}
-use Rattle.std.specs.Prelude.{refl, List, [], ◌∷◌, ◌++◌, true, false, ℕ, ◌+◌, ◌-◌, ◌≤◌, ◌<◌, length, get_or, drop}
+use Rattle.std.specs.Prelude.{refl, List, [], ◌∷◌, ◌++◌, true, false, ℕ, ◌+◌, ◌-◌, ◌≤◌, ◌<◌, length, get_or, drop, Some, None}
 use Rattle.std.proofs.Common.{◌∙◌, add-one, drop-drop}
 use Rattle.std.proofs.Math.Option.{none, some}
 use native.Mathlib.Omega.{arith}
 use Rattle.std.proofs.Math.Seq.{slice, slice_empty, slice-cons}
-use Rattle.format.specs.declared.labels.Found.{Found}
-use Rattle.format.specs.declared.labels.Found.TheVariants.{Part, Missing}
 use Rattle.spec_trees.specs.Tree.{Tree, list}
 use Rattle.spec_trees.specs.Bytes.{tree_bytes}
 use Rattle.areas.specs.Area.{Is, field_end, span}
@@ -17,6 +15,7 @@ use Rattle.spec_stages.specs.Paths.{Given, present}
 use Rattle.paths.specs.Walk.{given, Tells, TellsJoined}
 use Rattle.paths.specs.WalkLaws.{given_join, joined_end, joined_next}
 use Rattle.paths.specs.Hash.{hash_bytes, step_hash, bytes_hash, tree_hash, trees_hash, given_hash}
+use Rattle.format.specs.Labels.{Found}
 
 -- ---- bytes: the number of those from p on
 module _ (s : List ℕ) (p e : ℕ) (h : ℕ) where
@@ -87,11 +86,11 @@ module _ (h : ℕ) {r : ℕ} where
 
   -- found in one piece, or not
   module _ {s : List ℕ} {at : Span} (x : Given) {found : Found} (f : FoundIs s at x found) where
-    pub found_absent : found ≡ Missing → r ≡ step_hash h 0 → r ≡ given_hash h x
+    pub found_absent : found ≡ None → r ≡ step_hash h 0 → r ≡ given_hash h x
     unfolding given_hash
     found_absent z k = k ∙ sym (ap (given_hash h) (f.missing z))
 
-    pub found_piece : {n c d : ℕ} → found ≡ Part (span c d) → n ≡ step_hash h 1 → Says trees_bytes (λ ts. trees_hash n (list ts)) s c d r → r ≡ given_hash h x
+    pub found_piece : {n c d : ℕ} → found ≡ Some (span c d) → n ≡ step_hash h 1 → Says trees_bytes (λ ts. trees_hash n (list ts)) s c d r → r ≡ given_hash h x
     unfolding given_hash
     found_piece {n} {c} {d} z y k =
         let a = f.part (span c d) z in

@@ -1,10 +1,8 @@
 -- What a path of at most one label gives stands in one piece.
 use Rattle.std.proofs.Math.Path.{◌≡◌, subst}
-use Rattle.std.specs.Prelude.{refl, List, [], ◌∷◌, ℕ, ◌+◌, ◌≤◌, ◌<◌, drop}
+use Rattle.std.specs.Prelude.{refl, List, [], ◌∷◌, ℕ, ◌+◌, ◌≤◌, ◌<◌, drop, Some}
 use Rattle.std.proofs.Common.{sym, ap, ◌∙◌, append-nil, arith, drop_of_length-le}
 use Rattle.std.proofs.Math.Option.{some}
-use Rattle.format.specs.declared.labels.Found.{Found}
-use Rattle.format.specs.declared.labels.Found.TheVariants.{Part}
 use Rattle.spec_trees.specs.Options.{◌>>=◌}
 use Rattle.spec_trees.specs.Tree.{ε, ◌▹◌}
 use Rattle.spec_trees.specs.Bytes.{bytes, tree_fs, tree_bytes}
@@ -17,11 +15,12 @@ use Rattle.spec_stages.specs.Paths.{over, reached, apply}
 use Rattle.spec_stages.proofs.PathLaws.{given_itself}
 use Rattle.paths.specs.Walk.{Tells, Under}
 use Rattle.paths.specs.WalkLaws.{step_apply, tells_end}
+use Rattle.format.specs.Labels.{Found}
 
 module _ (q : List ℕ) (p : Span) (s : List ℕ) (a b : ℕ) where
-  pub piece_whole : 0 ≡ step_count q p → Tells q p 0 s (span a b) (λ x. FoundIs s (span a b) x (Part (span a b)))
+  pub piece_whole : 0 ≡ step_count q p → Tells q p 0 s (span a b) (λ x. FoundIs s (span a b) x (Some (span a b)))
   unfolding bytes tree_bytes tree_fs
-  piece_whole z = tells_end q p 0 s a b (λ x. FoundIs s (span a b) x (Part (span a b))) z (λ t h. record {
+  piece_whole z = tells_end q p 0 s a b (λ x. FoundIs s (span a b) x (Some (span a b))) z (λ t h. record {
     part = λ f y. let i : span a b ≡ f = cc in subst (λ at. ArrayIs s (span a b) (some (t ∷ [])) at) i record {
       array = t ▹ ε;
       same = refl;

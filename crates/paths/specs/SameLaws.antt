@@ -6,7 +6,7 @@ use Rattle.std.proofs.Math.Option.{none, some}
 use Rattle.std.proofs.lemmas.List.{length-map}
 use Rattle.std.proofs.Math.ListN.{get_or-map}
 use Rattle.spec_trees.specs.Options.{◌>>=◌}
-use Rattle.spec_trees.specs.Lists.{each}
+use Rattle.spec_trees.specs.Lists.{each, same_bytes}
 use Rattle.spec_trees.specs.Limits.{tree_max, depth_max}
 use Rattle.spec_trees.specs.Tree.{Tree, node, Trees, ε, ◌▹◌, Labels, bare, label, list, trees, bare_void, find}
 use Rattle.spec_trees.specs.Size.{size, size_a, size_l, depth, depth_a, depth_l}
@@ -16,12 +16,10 @@ use Rattle.spec_trees.specs.Readers.{fields, inside}
 use Rattle.spec_trees.specs.Decode.{tree_r}
 use Rattle.spec_trees.specs.Within.{OkA, OkL, Allowed, AllowedA}
 use Rattle.spec_trees.specs.OptionLaws.{some_equal, cond_cases}
-use Rattle.spec_trees.specs.ListLaws.{All-append}
+use Rattle.spec_trees.specs.ListLaws.{All-append, equal_same, same_equal}
 use Rattle.spec_trees.proofs.FieldLaws.{fields_bytes}
 use Rattle.spec_trees.proofs.ReaderLaws.{all_back}
 use Rattle.spec_trees.proofs.ArrayLaws.{tree_law}
-use Rattle.spec_trees.specs.Lists.{same_bytes}
-use Rattle.spec_trees.specs.ListLaws.{equal_same, same_equal}
 use Rattle.format.specs.Stand.{trees_bytes}
 use Rattle.spec_queries.specs.Query.{Route}
 use Rattle.spec_stages.specs.Paths.{Given, present, joins, over, reached, apply}

@@ -1,9 +1,7 @@
 -- A path's application, read where the path and the tree stand: what readers of it say, in the terms of the code. The
 -- path stands in q and is read from its step i on; the tree stands in s.
-use Rattle.std.specs.Prelude.{◌≡◌, List, [], map, Bool, true, false, ◌&&◌, ℕ, ◌+◌, ◌≤◌, ◌<◌, length, drop, get_or}
+use Rattle.std.specs.Prelude.{◌≡◌, List, [], map, Bool, ◌&&◌, ℕ, ◌+◌, ◌≤◌, ◌<◌, length, drop, get_or, Option, Some, None, Result, Ok, Err}
 use Rattle.std.proofs.Math.Option.{none, some}
-use Rattle.format.specs.declared.labels.Found.{Found}
-use Rattle.format.specs.declared.labels.Found.TheVariants.{Part, Missing}
 use Rattle.spec_trees.specs.Tree.{Tree, Trees, list, trees, bare_void}
 use Rattle.spec_trees.specs.Bytes.{tree_bytes}
 use Rattle.areas.specs.Area.{Is, IsAt}
@@ -15,13 +13,18 @@ use Rattle.format.specs.Stand.{trees_bytes, FoundIs}
 use Rattle.spec_queries.specs.Query.{Route}
 use Rattle.queries.specs.Places.{route_bytes, HoldsAt}
 use Rattle.queries.specs.Steps.{step_count, step_at}
-use Rattle.paths.specs.declared.path.Element.{Element}
-use Rattle.paths.specs.declared.path.Element.TheVariants.{Part, Fewer}
 use Rattle.paths.specs.declared.equality.Application.{Application}
-use Rattle.paths.specs.declared.path.Compared.{Compared}
-use Rattle.paths.specs.declared.path.Compared.TheVariants.{At, Differs}
 use Rattle.spec_stages.specs.Paths.{Given, present, joins, over, reached, apply}
 use Rattle.spec_stages.specs.Equality.{same_given}
+use Rattle.format.specs.Labels.{Found}
+
+-- where a tree of an array stands; or that there are fewer, with what is left of its number when all are passed
+abbrev pub Element : Type 0
+Element = Result Span ℕ
+
+-- where the bytes that were looked for end; or that other bytes stand there
+abbrev pub Compared : Type 0
+Compared = Option ℕ
 
 -- the trees that an application gives: absent gives none
 unfoldable pub given : Given → List Tree
@@ -77,20 +80,15 @@ pub record PartIs (s : List ℕ) (at : Span) (j : ℕ) (xs : List Tree) (one : S
 
 -- where tree j of xs stands, or what is left of j when all of xs are passed
 pub record ElementIs (s : List ℕ) (at : Span) (j : ℕ) (xs : List Tree) (r : Element) : Type 0 where
-  pub part : (one : Span) → r ≡ Part one → PartIs s at j xs one
-  pub fewer : (n : ℕ) → r ≡ Fewer n → j ≡ length xs + n
+  pub part : (one : Span) → r ≡ Ok one → PartIs s at j xs one
+  pub fewer : (n : ℕ) → r ≡ Err n → j ≡ length xs + n
 
 -- whether xs stands in o from `at` on, and where it ends
 pub record ComparedIs (o : List ℕ) (at : ℕ) (xs : List ℕ) (r : Compared) : Type 0 where
-  pub same : (n : ℕ) → r ≡ At n → Is o at n xs
-  pub differs : r ≡ Differs → (n : ℕ) → Is o at n xs → ⊥
+  pub same : (n : ℕ) → r ≡ Some n → Is o at n xs
+  pub differs : r ≡ None → (n : ℕ) → Is o at n xs → ⊥
 
 -- ---- an array that stands in one piece
-
--- whether one was found
-abbrev pub is_part : Found → Bool
-is_part (Part at) = true
-is_part Missing = false
 
 -- r is the bytes of whatever trees stand in s there
 abbrev pub OperandIs : (s : List ℕ) (at : Span) → List ℕ → Type 0
@@ -118,7 +116,7 @@ EqualsLiteral q path_at literal_at s tree_at r =
 
 -- what is found stands within the area
 abbrev pub FoundInside : List ℕ → Found → Type 0
-FoundInside s found = (at : Span) → found ≡ Found.Part at → (at.from ≤ at.to) × (at.to ≤ length s)
+FoundInside s found = (at : Span) → found ≡ Some at → (at.from ≤ at.to) × (at.to ≤ length s)
 
 -- r is whether two that are found, or are missing, are equal
 abbrev pub SameFound : (s : List ℕ) (one : Found) (s2 : List ℕ) (other : Found) → Bool → Type 0

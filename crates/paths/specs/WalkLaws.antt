@@ -1,10 +1,8 @@
 -- Laws of a path's application where the tree stands: step by step, and tree by tree.
-use Rattle.std.specs.Prelude.{◌≡◌, List, [], ◌∷◌, ◌++◌, map, Bool, true, false, ℕ, suc, ◌+◌, ◌≤◌, ◌<◌, length, drop}
+use Rattle.std.specs.Prelude.{◌≡◌, List, [], ◌∷◌, ◌++◌, map, Bool, true, false, ℕ, suc, ◌+◌, ◌≤◌, ◌<◌, length, drop, Some, None}
 use Rattle.std.proofs.Math.Path.{refl, sym, ap, subst}
 use Rattle.std.proofs.Common.{◌∙◌, append-nil, add-one, arith, drop_of_length-le, drop-cons}
 use Rattle.std.proofs.Math.Option.{none, some}
-use Rattle.format.specs.declared.labels.Found.{Found}
-use Rattle.format.specs.declared.labels.Found.TheVariants.{Part, Missing}
 use Rattle.spec_trees.specs.Options.{◌>>=◌}
 use Rattle.spec_trees.specs.Tree.{Tree, list, labels}
 use Rattle.spec_trees.specs.Bytes.{tree_bytes}
@@ -18,6 +16,7 @@ use Rattle.queries.specs.Steps.{step_count, step_at, StepInside}
 use Rattle.queries.specs.StepLaws.{steps_are, step_is, step_inside, path_room}
 use Rattle.spec_stages.specs.Paths.{Given, present, join, joins, over, reached, apply}
 use Rattle.paths.specs.Walk.{given, Walk, Tells, TellsOver, TellsJoined, Under}
+use Rattle.format.specs.Labels.{Found}
 
 -- ---- what an application gives, joined
 pub given_join : (x y : Given) → given (join x y) ≡ given x ++ given y
@@ -72,12 +71,12 @@ module _ (q : List ℕ) (p : Span) (i : ℕ) (s : List ℕ) (a b : ℕ) (P : Giv
       subst (λ l. P (apply l t)) (sym (drop_of_length-le path {i = i} (omega (arith, steps_are path g)))) (k t h)
 
   module _ (n : i < step_count q p) {r : Found} (u : Under q p i s (span a b) r) where
-    pub tells_missing : r ≡ Missing → P none → Tells q p i s (span a b) P
+    pub tells_missing : r ≡ None → P none → Tells q p i s (span a b) P
     unfolding ◌>>=◌
     tells_missing z k path t g h =
         subst P (sym (step_apply q p i n path t g ∙ ap (λ x. x >>= over (apply (drop (i + 1) path))) ((u t h).missing z))) k
 
-    pub tells_part : {x y : ℕ} → r ≡ Part (span x y) → TellsOver q p (i + 1) s (span x y) P → Tells q p i s (span a b) P
+    pub tells_part : {x y : ℕ} → r ≡ Some (span x y) → TellsOver q p (i + 1) s (span x y) P → Tells q p i s (span a b) P
     unfolding ◌>>=◌
     tells_part {x} {y} z k path t g h =
         let c = (u t h).part (span x y) z in
@@ -124,14 +123,14 @@ module _ {q : List ℕ} {p : Span} {i : ℕ} {s : List ℕ} {a b : ℕ} where
   pub walk_room : {A : Type 0} {f : A → List ℕ} → Walk f q p i s (span a b) → (p.from + 3 ≤ p.to) × (p.to ≤ length q)
   walk_room w = path_room w.path.value w.path.value_is
 
-  pub walk_part : {r : Found} {x y : ℕ} → Walk tree_bytes q p i s (span a b) → i < step_count q p → Under q p i s (span a b) r → r ≡ Part (span x y)
+  pub walk_part : {r : Found} {x y : ℕ} → Walk tree_bytes q p i s (span a b) → i < step_count q p → Under q p i s (span a b) r → r ≡ Some (span x y)
       → Walk trees_bytes q p (i + 1) s (span x y)
   walk_part {r} {x} {y} w n u z =
       let c = (u w.stands.value w.stands.value_is).part (span x y) z in
       record { path = w.path; step = omega arith; stands = record { value = c.array; value_is = c.array_is } }
 
   -- where the part lies
-  pub part_places : {r : Found} {x y : ℕ} → Walk tree_bytes q p i s (span a b) → Under q p i s (span a b) r → r ≡ Part (span x y) → (a ≤ x) × (x ≤ y) × (y ≤ b)
+  pub part_places : {r : Found} {x y : ℕ} → Walk tree_bytes q p i s (span a b) → Under q p i s (span a b) r → r ≡ Some (span x y) → (a ≤ x) × (x ≤ y) × (y ≤ b)
   part_places {r} {x} {y} w u z =
       let c = (u w.stands.value w.stands.value_is).part (span x y) z in
       (c.after, omega (arith, c.array_is.ends), c.within)

@@ -10,12 +10,11 @@ ghost use Rattle.spec_trees.specs.Lists.{same_bytes};
 ghost use Rattle.format.specs.Stand.{trees_bytes};
 ghost use Rattle.queries.specs.Places.{HoldsAt};
 ghost use Rattle.queries.specs.Steps.{step_count};
-ghost use Rattle.paths.specs.Walk.{application, given_bytes, is_array, is_part, Walk, Tells, TellsBoth, SameNth, EqualsLiteral, FoundInside, SameFound, EqualPaths};
+ghost use Rattle.paths.specs.Walk.{application, given_bytes, is_array, Walk, Tells, TellsBoth, SameNth, EqualsLiteral, FoundInside, SameFound, EqualPaths};
 
-use crate::path::{Compared, Element, count, matches_at, nth, operand, piece, present};
+use crate::path::{count, matches_at, nth, operand, piece, present};
 use areas::span::Span;
 use compare::compare::same_bytes;
-use format::labels::Found;
 use queries::path::steps;
 
 /// A path, which stands in a query, and the tree to which it is applied. Spans by themselves are cheaper to pass on; this
@@ -31,21 +30,10 @@ fn gives(query: &[u8], path: Span, area: &[u8], tree: Span, array: &[u8]) -> boo
     requires { Walk tree_bytes query.now path 0 area.now tree }
     ensures { Tells query.now path 0 area.now tree (λ x. result ≡ same_bytes (given_bytes x) array.now) }
 {
-    let r = matches_at(query, path, 0, area, tree, array, 0);
-    let Compared::At(n) = r else {
+    let Some(n) = matches_at(query, path, 0, area, tree, array, 0) else {
         return false;
     };
     n == array.len()
-}
-
-/// Whether an application that stands in one piece, or is absent, is present.
-fn is_part(found: Found) -> bool
-    ensures { result ≡ is_part found }
-{
-    match found {
-        Found::Part(part) => true,
-        Found::Missing => false,
-    }
 }
 
 /// Whether the path gives of the tree the array whose trees' bytes are `array`.
@@ -54,8 +42,7 @@ fn path_is(query: &[u8], path: Span, area: &[u8], tree: Span, array: &[u8]) -> b
     ensures { Tells query.now path 0 area.now tree (λ x. result ≡ is_array x array.now) }
 {
     if steps(query, path) <= 1 {
-        let found = piece(query, path, area, tree);
-        let Found::Part(part) = found else {
+        let Some(part) = piece(query, path, area, tree) else {
             return false;
         };
         let f = part.from;
@@ -95,12 +82,10 @@ fn same_nth(
     requires { Walk tree_bytes query.now one.path 0 area.now one.tree × Walk tree_bytes query.now other.path 0 area2.now other.tree }
     ensures { TellsBoth query.now area.now one area2.now other (SameNth j result) }
 {
-    let first = nth(query, one.path, 0, area, one.tree, j);
-    let Element::Part(part) = first else {
+    let Ok(part) = nth(query, one.path, 0, area, one.tree, j) else {
         return false;
     };
-    let second = nth(query, other.path, 0, area2, other.tree, j);
-    let Element::Part(part2) = second else {
+    let Ok(part2) = nth(query, other.path, 0, area2, other.tree, j) else {
         return false;
     };
     let f = part.from;
@@ -133,25 +118,23 @@ fn same_elements(
         path: path2,
         tree: tree2,
     };
-    let mut j = 0;
-    while j < n {
+    for j in 0..n {
         if !same_nth(query, area, one, area2, other, j) {
             return false;
         }
-        j += 1;
     }
     true
 }
 
 /// Whether two that were found in one piece, or are missing, are equal.
-fn same_found(area: &[u8], first: Found, area2: &[u8], second: Found) -> bool
+fn same_found(area: &[u8], first: Option<Span>, area2: &[u8], second: Option<Span>) -> bool
     requires { FoundInside area.now first × FoundInside area2.now second }
     ensures { SameFound area.now first area2.now second result }
 {
-    let Found::Part(part2) = second else {
-        return !is_part(first);
+    let Some(part2) = second else {
+        return first.is_none();
     };
-    let Found::Part(part) = first else {
+    let Some(part) = first else {
         return false;
     };
     let f = part.from;
@@ -193,8 +176,7 @@ fn same_as_piece<'a>(
     requires { Walk tree_bytes query.now path 0 area.now tree × Walk tree_bytes query.now path2 0 area2.now tree2 × (step_count query.now path2 ≤ 1) }
     ensures { EqualPaths query.now area.now (application path tree) area2.now (application path2 tree2) result }
 {
-    let found = piece(query, path2, area2, tree2);
-    let Found::Part(part) = found else {
+    let Some(part) = piece(query, path2, area2, tree2) else {
         return !present(query, path, 0, area, tree);
     };
     let array = operand(query, area2, false, part);

@@ -13,7 +13,6 @@ use crate::path::{piece, present, under};
 use areas::area::field_end;
 use areas::number::wide;
 use areas::span::Span;
-use format::labels::Found;
 use queries::path::steps;
 
 /// Numbers are below the limit. The multiplier spreads the numbers of values that differ in few bytes; of a tree only the
@@ -53,12 +52,10 @@ fn hash_tree(area: &[u8], tree: Span, number: usize) -> usize
     requires { HoldsAt tree_bytes area.now tree × (number < hash_limit) }
     ensures { (result < hash_limit) × Says tree_bytes (tree_hash number) area.now tree.from tree.to result }
 {
-    let end = tree.to;
+    let from = last_bytes(tree);
     let mut h = number;
-    let mut at = last_bytes(tree);
-    while at < end {
+    for at in from..tree.to {
         h = hash_byte(h, area[at]);
-        at += 1;
     }
     h
 }
@@ -88,8 +85,7 @@ fn hash_walk(query: &[u8], path: Span, i: usize, area: &[u8], tree: Span, number
     if i == steps(query, path) {
         return hash_tree(area, tree, number);
     }
-    let found = under(query, path, i, area, tree);
-    let Found::Part(part) = found else {
+    let Some(part) = under(query, path, i, area, tree) else {
         return number;
     };
     hash_over(query, path, i + 1, area, part, number)
@@ -118,8 +114,7 @@ pub fn hash_path(query: &[u8], path: Span, area: &[u8], tree: Span, number: usiz
     ensures { (result < hash_limit) × Tells query.now path 0 area.now tree (λ x. result ≡ given_hash number x) }
 {
     if steps(query, path) <= 1 {
-        let found = piece(query, path, area, tree);
-        let Found::Part(part) = found else {
+        let Some(part) = piece(query, path, area, tree) else {
             return hash_byte(number, 0);
         };
         return hash_trees(area, part, hash_byte(number, 1));

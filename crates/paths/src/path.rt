@@ -15,25 +15,11 @@ ghost use Rattle.paths.specs.Walk.{given, given_bytes, Walk, Tells, TellsOver, U
 use areas::area::field_end;
 use areas::span::Span;
 use compare::compare::same_bytes;
-use format::labels::{Found, find};
+use format::labels::find;
 use queries::path::{step_at, steps};
 
-/// Where a tree of an array stands; or that there are fewer, with what is left of its number when all are passed.
-#[derive(Clone, Copy)]
-pub enum Element {
-    Part(Span),
-    Fewer(usize),
-}
-
-/// Where the bytes that were looked for end; or that other bytes stand there.
-#[derive(Clone, Copy)]
-pub enum Compared {
-    At(usize),
-    Differs,
-}
-
 /// Where the trees stand that step i of the path reaches: those that the tree holds under its label.
-pub fn under(query: &[u8], path: Span, i: usize, area: &[u8], tree: Span) -> Found
+pub fn under(query: &[u8], path: Span, i: usize, area: &[u8], tree: Span) -> Option<Span>
     requires { StepInside query.now path i × HoldsAt tree_bytes area.now tree }
     ensures { Under query.now path i area.now tree result }
 {
@@ -57,8 +43,7 @@ pub fn present(query: &[u8], path: Span, i: usize, area: &[u8], tree: Span) -> b
     if i == steps(query, path) {
         return true;
     }
-    let found = under(query, path, i, area, tree);
-    let Found::Part(part) = found else {
+    let Some(part) = under(query, path, i, area, tree) else {
         return false;
     };
     present_over(query, path, i + 1, area, part)
@@ -94,8 +79,7 @@ pub fn count(query: &[u8], path: Span, i: usize, area: &[u8], tree: Span) -> usi
     if i == steps(query, path) {
         return 1;
     }
-    let found = under(query, path, i, area, tree);
-    let Found::Part(part) = found else {
+    let Some(part) = under(query, path, i, area, tree) else {
         return 0;
     };
     count_over(query, path, i + 1, area, part)
@@ -118,28 +102,42 @@ fn count_over(query: &[u8], path: Span, i: usize, area: &[u8], trees: Span) -> u
     n
 }
 
-/// Where tree j stands, counted from 0, of those that the path, from step i on, gives of the tree.
+/// Where tree j stands, counted from 0, of those that the path, from step i on, gives of the tree; or that there are
+/// fewer, with what is left of its number when all are passed.
 #[cycle(finding)]
-pub fn nth(query: &[u8], path: Span, i: usize, area: &[u8], tree: Span, j: usize) -> Element
+pub fn nth(
+    query: &[u8],
+    path: Span,
+    i: usize,
+    area: &[u8],
+    tree: Span,
+    j: usize,
+) -> Result<Span, usize>
     requires { Walk tree_bytes query.now path i area.now tree }
     ensures { Tells query.now path i area.now tree (λ x. ElementIs area.now tree j (given x) result) }
 {
     if i == steps(query, path) {
         if j == 0 {
-            return Element::Part(tree);
+            return Ok(tree);
         }
-        return Element::Fewer(j - 1);
+        return Err(j - 1);
     }
-    let found = under(query, path, i, area, tree);
-    let Found::Part(part) = found else {
-        return Element::Fewer(j);
+    let Some(part) = under(query, path, i, area, tree) else {
+        return Err(j);
     };
     nth_over(query, path, i + 1, area, part, j)
 }
 
 /// The same over an array, by its trees.
 #[cycle(finding)]
-fn nth_over(query: &[u8], path: Span, i: usize, area: &[u8], trees: Span, j: usize) -> Element
+fn nth_over(
+    query: &[u8],
+    path: Span,
+    i: usize,
+    area: &[u8],
+    trees: Span,
+    j: usize,
+) -> Result<Span, usize>
     requires { Walk trees_bytes query.now path i area.now trees }
     ensures { TellsOver query.now path i area.now trees (λ x. ElementIs area.now trees j (given x) result) }
 {
@@ -149,17 +147,17 @@ fn nth_over(query: &[u8], path: Span, i: usize, area: &[u8], trees: Span, j: usi
     while at != end {
         let m = field_end(area, at);
         let r = nth(query, path, i, area, Span { from: at, to: m }, left);
-        let Element::Fewer(n) = r else {
+        let Err(n) = r else {
             return r;
         };
         left = n;
         at = m;
     }
-    Element::Fewer(left)
+    Err(left)
 }
 
-/// Whether the bytes of the part of `area` stand in `other` from `at` on.
-fn stands_at(area: &[u8], part: Span, other: &[u8], at: usize) -> Compared
+/// Where the bytes of the part of `area` end, if they stand in `other` from `at` on.
+fn stands_at(area: &[u8], part: Span, other: &[u8], at: usize) -> Option<usize>
     requires { (part.from ≤ part.to) × (part.to ≤ length area.now) × (at ≤ length other.now) }
     ensures { ComparedIs other.now at (slice part.from part.to area.now) result }
 {
@@ -167,15 +165,16 @@ fn stands_at(area: &[u8], part: Span, other: &[u8], at: usize) -> Compared
     let to = part.to;
     let n = to - from;
     if other.len() - at < n {
-        return Compared::Differs;
+        return None;
     }
     if same_bytes(&area[from..to], &other[at..at + n]) {
-        return Compared::At(at + n);
+        return Some(at + n);
     }
-    Compared::Differs
+    None
 }
 
-/// Whether the bytes of the trees that the path, from step i on, gives of the tree stand in `other` from `at` on.
+/// Where the bytes of the trees end that the path, from step i on, gives of the tree, if they stand in `other` from `at`
+/// on.
 #[cycle(matching)]
 pub fn matches_at(
     query: &[u8],
@@ -185,16 +184,15 @@ pub fn matches_at(
     tree: Span,
     other: &[u8],
     at: usize,
-) -> Compared
+) -> Option<usize>
     requires { Walk tree_bytes query.now path i area.now tree × (at ≤ length other.now) }
     ensures { Tells query.now path i area.now tree (λ x. ComparedIs other.now at (given_bytes x) result) }
 {
     if i == steps(query, path) {
         return stands_at(area, tree, other, at);
     }
-    let found = under(query, path, i, area, tree);
-    let Found::Part(part) = found else {
-        return Compared::At(at);
+    let Some(part) = under(query, path, i, area, tree) else {
+        return Some(at);
     };
     matches_over(query, path, i + 1, area, part, other, at)
 }
@@ -209,7 +207,7 @@ fn matches_over(
     trees: Span,
     other: &[u8],
     at: usize,
-) -> Compared
+) -> Option<usize>
     requires { Walk trees_bytes query.now path i area.now trees × (at ≤ length other.now) }
     ensures { TellsOver query.now path i area.now trees (λ x. ComparedIs other.now at (given_bytes x) result) }
 {
@@ -218,23 +216,20 @@ fn matches_over(
     let mut from = trees.from;
     while from != end {
         let m = field_end(area, from);
-        let r = matches_at(query, path, i, area, Span { from, to: m }, other, n);
-        let Compared::At(k) = r else {
-            return Compared::Differs;
-        };
+        let k = matches_at(query, path, i, area, Span { from, to: m }, other, n)?;
         n = k;
         from = m;
     }
-    Compared::At(n)
+    Some(n)
 }
 
 /// Where what a path of at most one label gives of the tree stands, in one piece; or that it is absent.
-pub fn piece(query: &[u8], path: Span, area: &[u8], tree: Span) -> Found
+pub fn piece(query: &[u8], path: Span, area: &[u8], tree: Span) -> Option<Span>
     requires { Walk tree_bytes query.now path 0 area.now tree × (step_count query.now path ≤ 1) }
     ensures { Tells query.now path 0 area.now tree (λ x. FoundIs area.now tree x result) }
 {
     if steps(query, path) == 0 {
-        return Found::Part(tree);
+        return Some(tree);
     }
     under(query, path, 0, area, tree)
 }

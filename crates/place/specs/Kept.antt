@@ -1,9 +1,8 @@
 -- What the writers of kept trees promise.
 use Rattle.std.specs.Prelude.{List, map, ℕ, drop}
-use Rattle.areas.specs.declared.area.Out.{Out}
 use Rattle.spec_trees.specs.Tree.{Tree, Trees, list, trees}
 use Rattle.spec_trees.specs.Bytes.{tree_bytes}
-use Rattle.areas.specs.Area.{IsAt, Wrote}
+use Rattle.areas.specs.Area.{IsAt, Wrote, Out}
 use Rattle.areas.specs.declared.span.Span.{Span}
 use Rattle.format.specs.Stand.{trees_bytes}
 use Rattle.spec_queries.specs.Query.{Path}

@@ -1,17 +1,13 @@
 -- A keep written: by the empty path, without the label, and with it; and the keeps of an array's trees, one after
 -- another.
-use Rattle.std.specs.Prelude.{◌≡◌, refl, List, ◌∷◌, ◌++◌, map, ℕ, ◌+◌, ◌-◌, ◌≤◌, ◌<◌, length, take, drop}
+use Rattle.std.specs.Prelude.{◌≡◌, refl, List, ◌∷◌, ◌++◌, map, ℕ, ◌+◌, ◌-◌, ◌≤◌, ◌<◌, length, take, drop, Some, None, Ok, Err}
 use Rattle.std.proofs.Common.{sym, ◌∙◌, arith}
 use Rattle.std.proofs.Math.Path.{ap, subst}
 use Rattle.std.proofs.Math.Option.{none, some}
-use Rattle.areas.specs.declared.area.Out.{Out}
-use Rattle.areas.specs.declared.area.Out.TheVariants.{At, TooLarge}
-use Rattle.format.specs.declared.labels.Found.{Found}
-use Rattle.format.specs.declared.labels.Found.TheVariants.{Part, Missing}
 use Rattle.spec_trees.specs.Options.{maybe}
 use Rattle.spec_trees.specs.Tree.{Tree, node, void, Trees, ◌▹◌, bare, label, labels, list, trees, bare_void, find}
 use Rattle.spec_trees.specs.Bytes.{bytes, tree_f, tree_bytes, label_heads}
-use Rattle.areas.specs.Area.{Is, IsAt, span, Wrote, field_end}
+use Rattle.areas.specs.Area.{Is, IsAt, span, Wrote, field_end, Out, too_large}
 use Rattle.areas.specs.declared.span.Span.{Span}
 use Rattle.format.specs.Stand.{trees_bytes, EntryFound, Finds, Behind, Headed}
 use Rattle.areas.specs.AreaLaws.{is_copied, is_keep, no_room, wrote_keep, wrote_none, wrote_fail, wrote_seq}
@@ -25,6 +21,7 @@ use Rattle.place.specs.Place.{under}
 use Rattle.place.specs.Kept.{kept_trees, Keeps, KeepsEach}
 use Rattle.place.specs.WriterLaws.{rest_of, rest_none, ready_first, ready_rest}
 use Rattle.place.specs.PlaceLaws.{labels_one, length_under}
+use Rattle.format.specs.Labels.{Found}
 
 -- ---- a keep, by what stands under the label
 kept_missing : (k : ℕ) (p : Path) (t : Tree) → find k (labels t) ≡ none → kept (k ∷ p) t ≡ bare_void
@@ -50,12 +47,12 @@ keep_end {w} {x} {d = d} {stop = stop} {r = r} z h path t g j =
 -- ---- a label
 module _ {w : List ℕ} (q : List ℕ) (p : Span) (i : ℕ) {a b k l : ℕ} {o : Found} (n : i < step_count q p) (s : k ≡ step_at q p i)
     (m : l ≡ field_end w (a + 3)) (f : Finds w (span l b) k o) where
-  pub keep_missing : {x : List ℕ} {d stop : ℕ} {r : Out} → o ≡ Missing → Wrote w x d stop (tree_bytes bare_void) r → Keeps w x q p i (span a b) (span d stop) r
+  pub keep_missing : {x : List ℕ} {d stop : ℕ} {r : Out} → o ≡ None → Wrote w x d stop (tree_bytes bare_void) r → Keeps w x q p i (span a b) (span d stop) r
   keep_missing {x} {d} {stop} {r} z h path t g j =
       let c : kept (drop i path) t ≡ bare_void = ap (λ l. kept l t) (rest_of path i g n s) ∙ kept_missing k (drop (i + 1) path) t ((found_under k m f t j).missing z) in
       subst (λ y. Wrote w x d stop (tree_bytes y) r) (sym c) h
 
-  module _ {c u : ℕ} (z : o ≡ Part (span c u)) where
+  module _ {c u : ℕ} (z : o ≡ Some (span c u)) where
     array_of : (t : Tree) → Is w a b (tree_bytes t) → Trees
     array_of t j = ((found_under k m f t j).part (span c u) z).array
 
@@ -66,10 +63,10 @@ module _ {w : List ℕ} (q : List ℕ) (p : Span) (i : ℕ) {a b k l : ℕ} {o :
         let y = (found_under k m f t j).part (span c u) z in
         ap (λ l. tree_bytes (kept l t)) (rest_of path i g n s) ∙ kept_part k (drop (i + 1) path) t y.array y.same
 
-    pub keep_no_room : (d stop : ℕ) → stop < d + (6 + label_heads k) → Keeps w w q p i (span a b) (span d stop) TooLarge
+    pub keep_no_room : (d stop : ℕ) → stop < d + (6 + label_heads k) → Keeps w w q p i (span a b) (span d stop) (Err too_large)
     keep_no_room d stop h path t g j =
         let ts = trees_bytes (kept_trees (drop (i + 1) path) (array_of t j)) in
-        subst (λ l. Wrote w w d stop l TooLarge) (sym (part_bytes path t g j)) (no_room w d stop (under k ts) (omega (arith, length_under k ts)))
+        subst (λ l. Wrote w w d stop l (Err too_large)) (sym (part_bytes path t g j)) (no_room w d stop (under k ts) (omega (arith, length_under k ts)))
 
     pub keep_part : {x x2 : List ℕ} {d to : ℕ} (stop : ℕ) {r r2 : Out} → to ≡ d + (6 + label_heads k) → to ≤ length w → KeepsEach w x q p (i + 1) (span c u) (span to stop) r
         → Headed (under k) (6 + label_heads k) x x2 d r r2 → Keeps w x2 q p i (span a b) (span d stop) r2
@@ -86,21 +83,21 @@ unfolding kept_trees bytes tree_f tree_bytes
 kept_first p t ts = refl
 
 module _ {w q : List ℕ} {p : Span} (i : ℕ) {a b d stop : ℕ} where
-  pub each_end : a ≡ b → d ≤ stop → KeepsEach w w q p i (span a b) (span d stop) (At d)
+  pub each_end : a ≡ b → d ≤ stop → KeepsEach w w q p i (span a b) (span d stop) (Ok d)
   unfolding kept_trees bytes tree_f
   each_end z l path ts g j =
-      subst (λ x. Wrote w w d stop (trees_bytes (kept_trees (drop i path) x)) (At d)) (sym (trees_none ts z j)) (wrote_none w d stop l)
+      subst (λ x. Wrote w w d stop (trees_bytes (kept_trees (drop i path) x)) (Ok d)) (sym (trees_none ts z j)) (wrote_none w d stop l)
 
   module _ {x : List ℕ} {m : ℕ} {o : Out} (n : a ≡ b → ⊥) (f : m ≡ field_end w a) (h : Keeps w x q p i (span a m) (span d stop) o) where
-    pub each_fail : o ≡ TooLarge → KeepsEach w x q p i (span a b) (span d stop) TooLarge
+    pub each_fail : o ≡ Err too_large → KeepsEach w x q p i (span a b) (span d stop) (Err too_large)
     each_fail z path ts g j =
         let y = trees_parts ts f n j in
         let c = ap (λ l. trees_bytes (kept_trees (drop i path) l)) y.same ∙ kept_first (drop i path) y.first y.rest in
-        subst (λ l. Wrote w x d stop l TooLarge) (sym c)
+        subst (λ l. Wrote w x d stop l (Err too_large)) (sym c)
         (wrote_fail (h path y.first g y.first_is) (trees_bytes (kept_trees (drop i path) y.rest)) z)
 
     -- what was written of the first, and then of the rest
-    pub each_next : {u : List ℕ} {s : ℕ} {r : Out} → b ≤ d → d ≤ length w → o ≡ At s → KeepsEach x u q p i (span m b) (span s stop) r → KeepsEach w u q p i (span a b) (span d stop) r
+    pub each_next : {u : List ℕ} {s : ℕ} {r : Out} → b ≤ d → d ≤ length w → o ≡ Ok s → KeepsEach x u q p i (span m b) (span s stop) r → KeepsEach w u q p i (span a b) (span d stop) r
     each_next {u} {s} {r} l k z j path ts g jj =
         let y = trees_parts ts f n jj in
         let one = h path y.first g y.first_is in
@@ -111,7 +108,7 @@ module _ {w q : List ℕ} {p : Span} (i : ℕ) {a b d stop : ℕ} where
 -- what was written of the first tree stands before the rest
 module _ {w q x : List ℕ} {p : Span} {i a m b d stop : ℕ} {o : Out} (k : WriterReady trees_bytes w q p i (span a b) (span d stop)) (n : a ≡ b → ⊥) (f : m ≡ field_end w a)
     (h : Keeps w x q p i (span a m) (span d stop) o) where
-  pub kept_rest : {s : ℕ} → length x ≡ length w → o ≡ At s → WriterReady trees_bytes x q p i (span m b) (span s stop)
+  pub kept_rest : {s : ℕ} → length x ≡ length w → o ≡ Ok s → WriterReady trees_bytes x q p i (span m b) (span s stop)
   kept_rest l z =
       let y = ready_first k n f in
       let g = h y.along.path y.source.value y.along.path_is y.source.value_is in

@@ -1,9 +1,8 @@
 -- Places: the bytes of a void tree with one label, and of a place along a path; the room that its heads take; and what
 -- writers of such heads promise.
 use Rattle.std.specs.Prelude.{List, [], ◌∷◌, ℕ, zero, suc, ◌+◌}
-use Rattle.areas.specs.declared.area.Out.{Out}
 use Rattle.spec_trees.specs.Bytes.{field_bytes, label_heads}
-use Rattle.areas.specs.Area.{IsAt}
+use Rattle.areas.specs.Area.{IsAt, Out}
 use Rattle.areas.specs.declared.span.Span.{Span}
 use Rattle.format.specs.Stand.{entry_of, Headed}
 use Rattle.spec_queries.specs.Query.{Path}

@@ -1,14 +1,12 @@
 -- Laws of places, of the room that their heads take, and of those heads stored before a content.
-use Rattle.std.specs.Prelude.{◌≡◌, List, [], ◌∷◌, ◌++◌, ℕ, zero, suc, ◌+◌, ◌-◌, ◌*◌, ◌≤◌, length, take, drop, get_or}
+use Rattle.std.specs.Prelude.{◌≡◌, List, [], ◌∷◌, ◌++◌, ℕ, zero, suc, ◌+◌, ◌-◌, ◌*◌, ◌≤◌, length, take, drop, get_or, Ok, Err}
 use Rattle.std.proofs.Math.Path.{refl}
 use Rattle.std.proofs.Common.{sym, ap, subst, ◌∙◌, append-nil, add-one, take-take, take-suc}
 use native.Mathlib.Omega.{arith}
 use Rattle.std.proofs.Math.Seq.{take-length}
-use Rattle.areas.specs.declared.area.Out.{Out}
-use Rattle.areas.specs.declared.area.Out.TheVariants.{At, TooLarge}
 use Rattle.spec_trees.specs.Tree.{Tree, node, Trees, ε, ◌▹◌, void, bare, label, bare_void, trees}
 use Rattle.spec_trees.specs.Bytes.{field_bytes, bytes, root_f, tree_f, tree_fs, tree_bytes, label_heads}
-use Rattle.areas.specs.Area.{IsAt, Wrote, head_bytes}
+use Rattle.areas.specs.Area.{IsAt, Wrote, head_bytes, Out, too_large}
 use Rattle.areas.specs.declared.span.Span.{Span}
 use Rattle.areas.specs.AreaLaws.{failed, length_field}
 use Rattle.spec_trees.proofs.FieldLaws.{bytes_one}
@@ -69,25 +67,25 @@ pub length_under : (k : ℕ) (c : List ℕ) → length (under k c) ≡ 6 + label
 unfolding under
 length_under k c = omega (arith, length_field (2, 3 ∷ 0 ∷ 0 ∷ entry_of k c), length_entry k c)
 
-module _ {w w1 w2 w3 : List ℕ} {d : ℕ} (k : ℕ) {e : ℕ} {r q : Out} (b : d + (6 + label_heads k) ≤ e) (l2 : e ≤ length w2) (z : q ≡ At e)
+module _ {w w1 w2 w3 : List ℕ} {d : ℕ} (k : ℕ) {e : ℕ} {r q : Out} (b : d + (6 + label_heads k) ≤ e) (l2 : e ≤ length w2) (z : q ≡ Ok e)
     (h1 : Headed (entry_of k) (label_heads k) w w1 (d + 6) r q)
-    (h2 : Wrote w1 w2 (d + 3) (d + 3 + 3) (head_bytes 3 (d + 6 - (d + 3 + 3))) (At (d + 3 + 3)))
-    (h3 : Wrote w2 w3 d (d + 3) (head_bytes 2 (e - (d + 3))) (At (d + 3))) where
-  pub headed_under : Headed (under k) (6 + label_heads k) w w3 d r (At e)
+    (h2 : Wrote w1 w2 (d + 3) (d + 3 + 3) (head_bytes 3 (d + 6 - (d + 3 + 3))) (Ok (d + 3 + 3)))
+    (h3 : Wrote w2 w3 d (d + 3) (head_bytes 2 (e - (d + 3))) (Ok (d + 3))) where
+  pub headed_under : Headed (under k) (6 + label_heads k) w w3 d r (Ok e)
   unfolding under
   headed_under =
       let n : d + 6 - (d + 3 + 3) ≡ 0 = omega arith in
-      let a2 : Headed (λ c. 3 ∷ 0 ∷ 0 ∷ c) 3 w1 w2 (d + 3) q (At e) = headed_bytes (head_bytes 3 0) 3 refl z
-      (subst (λ m. Wrote w1 w2 (d + 3) (d + 3 + 3) (head_bytes 3 m) (At (d + 3 + 3))) n h2) in
-      let a3 : Headed (λ c. field_bytes (2, c)) 3 w2 w3 d (At e) (At e) = headed_field 2 (omega arith) l2 refl h3 in
+      let a2 : Headed (λ c. 3 ∷ 0 ∷ 0 ∷ c) 3 w1 w2 (d + 3) q (Ok e) = headed_bytes (head_bytes 3 0) 3 refl z
+      (subst (λ m. Wrote w1 w2 (d + 3) (d + 3 + 3) (head_bytes 3 m) (Ok (d + 3 + 3))) n h2) in
+      let a3 : Headed (λ c. field_bytes (2, c)) 3 w2 w3 d (Ok e) (Ok e) = headed_field 2 (omega arith) l2 refl h3 in
       headed_seq {n = 3 + label_heads k} refl (omega arith) (headed_seq {n = label_heads k} (omega arith) refl h1 a2) a3
 
 -- the entry inside it
 pub behind_entry : (w : List ℕ) (d k : ℕ) {r : Out} → Behind w (d + (6 + label_heads k)) r → Behind w (d + 6 + label_heads k) r
 behind_entry w d k b e q = omega (arith, b e q)
 
-pub large_entry : {w x : List ℕ} {d : ℕ} (k : ℕ) {r q : Out} → Headed (entry_of k) (label_heads k) w x (d + 6) r q → q ≡ TooLarge
-    → Headed (under k) (6 + label_heads k) w x d r TooLarge
+pub large_entry : {w x : List ℕ} {d : ℕ} (k : ℕ) {r q : Out} → Headed (entry_of k) (label_heads k) w x (d + 6) r q → q ≡ Err too_large
+    → Headed (under k) (6 + label_heads k) w x d r (Err too_large)
 large_entry {w} {x} {d} k {r} {q} h z = record {
   same = sym z ∙ h.same;
   wrote = λ u stop c b f.

@@ -1,27 +1,24 @@
 -- Laws of paths that stand in a query's bytes: their labels, and the rest from a step on; and of what stands ready
 -- for a writer: a tree, the array under its label, the trees of that array one after another.
-use Rattle.std.specs.Prelude.{◌≡◌, List, [], ◌∷◌, ℕ, zero, suc, ◌+◌, ◌≤◌, ◌<◌, length, take, drop, get_or, T, leb}
-use Rattle.std.proofs.Common.{sym, ap, subst, ◌∙◌, add-one, arith, drop_of_length-le, drop-cons, leb→le}
-use Rattle.spec_trees.specs.Lists.{all}
-use Rattle.spec_trees.specs.Limits.{label_max, path_max}
+use Rattle.std.specs.Prelude.{◌≡◌, List, [], ◌∷◌, ℕ, ◌+◌, ◌≤◌, ◌<◌, length, take, drop, get_or, T, Some}
+use Rattle.std.proofs.Common.{sym, ap, subst, ◌∙◌, add-one, arith, drop_of_length-le, drop-cons}
+use Rattle.spec_trees.specs.Limits.{label_max}
 use Rattle.spec_trees.specs.Tree.{is_label}
-use Rattle.format.specs.declared.labels.Found.{Found}
-use Rattle.format.specs.declared.labels.Found.TheVariants.{Part}
 use Rattle.spec_trees.specs.Bytes.{tree_bytes}
 use Rattle.areas.specs.Area.{IsAt, span, field_end}
 use Rattle.areas.specs.declared.span.Span.{Span}
 use Rattle.format.specs.Stand.{trees_bytes, labels_bytes, Holds, Finds}
-use Rattle.spec_trees.specs.OptionLaws.{T_and}
 use Rattle.areas.specs.AreaLaws.{is_keep}
 use Rattle.format.specs.StandLaws.{tree_places, trees_places, holds_labels, holds_first, holds_rest}
 use Rattle.format.specs.LabelLaws.{holds_found}
-use Rattle.spec_queries.specs.Query.{Path, is_path}
+use Rattle.spec_queries.specs.Query.{Path}
 use Rattle.spec_queries.specs.PathLaws.{path_label, path_short}
 use Rattle.spec_trees.specs.ByteLaws.{label_small}
 use Rattle.queries.specs.Places.{path_bytes}
 use Rattle.queries.specs.Steps.{step_count, step_at, StepInside}
 use Rattle.queries.specs.StepLaws.{steps_are, step_is, step_inside, path_room}
 use Rattle.place.specs.Writers.{Along, WriterReady}
+use Rattle.format.specs.Labels.{Found}
 
 -- of a path that is only known to stand there
 module _ {q : List ℕ} {p : Span} (h : Along q p) where
@@ -65,7 +62,7 @@ module _ {w q : List ℕ} {p : Span} {i a b d stop : ℕ} (h : WriterReady tree_
   ready_labels g = holds_labels h.source g
 
   -- the array under a label, with room for n bytes of heads
-  pub ready_array : {l : ℕ} (k : ℕ) {o : Found} {c u : ℕ} (n : ℕ) → i < step_count q p → l ≡ field_end w (a + 3) → Finds w (span l b) k o → o ≡ Part (span c u) → d + n ≤ stop
+  pub ready_array : {l : ℕ} (k : ℕ) {o : Found} {c u : ℕ} (n : ℕ) → i < step_count q p → l ≡ field_end w (a + 3) → Finds w (span l b) k o → o ≡ Some (span c u) → d + n ≤ stop
       → WriterReady trees_bytes w q p (i + 1) (span c u) (span (d + n) stop)
   ready_array {l} k {o} {c} {u} n s g f z r =
       let ls = holds_labels h.source g in

@@ -6,14 +6,21 @@ ghost use Rattle.place.specs.Writers.{WriterReady};
 ghost use Rattle.place.specs.Kept.{Keeps, KeepsEach};
 
 use crate::place::{put_void, wrap};
-use areas::area::{Out, copy, field_end};
+use areas::area::{TooLarge, copy, field_end};
 use areas::span::Span;
-use format::labels::{Found, find, heads};
+use format::labels::{find, heads};
 use queries::path::{step_at, steps};
 
 /// Writes into the room the keep of the tree, by the path from step i on.
 #[cycle(keeping)]
-pub fn keep(work: &mut [u8], query: &[u8], path: Span, i: usize, tree: Span, room: Span) -> Out
+pub fn keep(
+    work: &mut [u8],
+    query: &[u8],
+    path: Span,
+    i: usize,
+    tree: Span,
+    room: Span,
+) -> Result<usize, TooLarge>
     requires { WriterReady tree_bytes work.old query.now path i tree room }
     ensures { Keeps work.old work.new query.now path i tree room result }
 {
@@ -25,13 +32,12 @@ pub fn keep(work: &mut [u8], query: &[u8], path: Span, i: usize, tree: Span, roo
         from: field_end(work, tree.from + 3),
         to: tree.to,
     };
-    let found = find(work, labels, label);
-    let Found::Part(array) = found else {
+    let Some(array) = find(work, labels, label) else {
         return put_void(work, room);
     };
     let n = 6 + heads(label);
     if room.to - room.from < n {
-        return Out::TooLarge;
+        return Err(TooLarge);
     }
     let behind = Span {
         from: room.from + n,
@@ -43,7 +49,14 @@ pub fn keep(work: &mut [u8], query: &[u8], path: Span, i: usize, tree: Span, roo
 
 /// Writes into the room the keeps of the trees, by the path from step i on, one behind another.
 #[cycle(keeping)]
-fn keep_each(work: &mut [u8], query: &[u8], path: Span, i: usize, trees: Span, room: Span) -> Out
+fn keep_each(
+    work: &mut [u8],
+    query: &[u8],
+    path: Span,
+    i: usize,
+    trees: Span,
+    room: Span,
+) -> Result<usize, TooLarge>
     requires { WriterReady trees_bytes work.old query.now path i trees room }
     ensures { KeepsEach work.old work.new query.now path i trees room result }
 {
@@ -54,12 +67,9 @@ fn keep_each(work: &mut [u8], query: &[u8], path: Span, i: usize, trees: Span, r
     while from != end {
         let m = field_end(work, from);
         let left = Span { from: at, to: stop };
-        let one = keep(work, query, path, i, Span { from, to: m }, left);
-        let Out::At(e) = one else {
-            return Out::TooLarge;
-        };
+        let e = keep(work, query, path, i, Span { from, to: m }, left)?;
         from = m;
         at = e;
     }
-    Out::At(at)
+    Ok(at)
 }

@@ -10,24 +10,26 @@ ghost use Rattle.queries.specs.Steps.{step_count};
 ghost use Rattle.place.specs.Writers.{Along};
 ghost use Rattle.place.specs.Place.{Placed, under, room_at};
 
-use areas::area::{Out, copy_in, put_head};
+use areas::area::{TooLarge, copy_in, put_head};
 use areas::span::Span;
 use format::labels::{entry, heads};
 use queries::path::{step_at, steps};
 
 /// Stores, before a content that another writer wrote behind the room for them, the heads of a void tree whose one label
 /// holds it: of the tree, of its root, and of the label.
-pub fn wrap(work: &mut [u8], at: usize, label: u16, written: Out) -> Out
+pub fn wrap(
+    work: &mut [u8],
+    at: usize,
+    label: u16,
+    written: Result<usize, TooLarge>,
+) -> Result<usize, TooLarge>
     requires { Behind work.old (at + (6 + label_heads label)) written × (label ≤ label_max) × (at + (6 + label_heads label) ≤ length work.old) × (length work.old ≤ work_min) }
     ensures { Headed (under label) (6 + label_heads label) work.old work.new at written result }
 {
-    let inner = entry(work, at + 6, label, written);
-    let Out::At(e) = inner else {
-        return Out::TooLarge;
-    };
+    let e = entry(work, at + 6, label, written)?;
     put_head(work, at + 3, 3, at + 6);
     put_head(work, at, 2, e);
-    Out::At(e)
+    Ok(e)
 }
 
 /// How many bytes of heads a place has along the path.
@@ -36,36 +38,38 @@ pub fn heads_room(query: &[u8], target: Span) -> usize
     ensures { result ≡ room_at query.now target (step_count query.now target) }
 {
     let n = steps(query, target);
-    let mut i = 0;
     let mut all = 0;
-    while i != n {
+    for i in 0..n {
         all += 6 + heads(step_at(query, target, i));
-        i += 1;
     }
     all
 }
 
 /// Stores the heads of a place along the path, before a content that another writer wrote behind the room for them,
 /// which begins at `at`. From the inside out, so that each head knows its length.
-pub fn place_heads(work: &mut [u8], query: &[u8], target: Span, at: usize, written: Out) -> Out
+pub fn place_heads(
+    work: &mut [u8],
+    query: &[u8],
+    target: Span,
+    at: usize,
+    written: Result<usize, TooLarge>,
+) -> Result<usize, TooLarge>
     requires { Along query.now target × Behind work.old (at + room_at query.now target (step_count query.now target)) written × (at + room_at query.now target (step_count query.now target) ≤ length work.old) × (length work.old ≤ work_min) }
     ensures { Placed work.old work.new query.now target at written result }
 {
-    let mut i = steps(query, target);
+    let n = steps(query, target);
     let mut to = at + heads_room(query, target);
     let mut out = written;
-    while i != 0 {
-        let j = i - 1;
-        let label = step_at(query, target, j);
+    for i in (0..n).rev() {
+        let label = step_at(query, target, i);
         to -= 6 + heads(label);
         out = wrap(work, to, label, out);
-        i = j;
     }
     out
 }
 
 /// Writes the bare void tree into the room: what a place of absent data, or the keep of a missing label, is.
-pub fn put_void(work: &mut [u8], room: Span) -> Out
+pub fn put_void(work: &mut [u8], room: Span) -> Result<usize, TooLarge>
     requires { (room.from ≤ room.to) × (room.to ≤ length work.old) }
     ensures { Wrote work.old work.new room.from room.to (tree_bytes bare_void) result }
 {

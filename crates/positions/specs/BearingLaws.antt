@@ -1,5 +1,5 @@
 -- Laws of the positions that the collected trees bear: one tree after another gets its own, and no other is touched.
-use Rattle.std.specs.Prelude.{◌≡◌, refl, List, [], ◌∷◌, ◌++◌, ℕ, suc, ◌+◌, ◌-◌, ◌*◌, ◌≤◌, take, drop}
+use Rattle.std.specs.Prelude.{◌≡◌, refl, List, [], ◌∷◌, ◌++◌, ℕ, suc, ◌+◌, ◌-◌, ◌*◌, ◌≤◌, take, drop, Ok}
 use Rattle.std.proofs.Common.{sym, ap, ◌∙◌, add-zero, arith}
 use Rattle.std.proofs.Math.Path.{subst}
 use Rattle.std.proofs.Math.ListN.{length}
@@ -11,7 +11,6 @@ use Rattle.areas.specs.Area.{Is, Wrote, field_end}
 use Rattle.areas.specs.AreaLaws.{take_less, is_keep, wrote_keep}
 use Rattle.areas.specs.Number.{two_at, two_bytes}
 use Rattle.areas.specs.NumberLaws.{put, two_below, two_above}
-use Rattle.areas.specs.declared.area.Out.{Out}
 use Rattle.queries.specs.Places.{array_trees}
 use Rattle.queries.specs.TreesLaws.{ArrayParts, array_parts, array_none, six, length_cons, length_none}
 use Rattle.spec_stages.specs.Positions.{Borne, unmarked, marked, numbered}
@@ -73,7 +72,7 @@ module _ {w₀ : List ℕ} {a b k₀ d : ℕ} where
     }
 
     module _ (n : at ≡ b → ⊥) {e : ℕ} (z : e ≡ field_end w (collected_at + at)) {x : List ℕ} (l : length x ≡ length w)
-        (h : Wrote w x (position_at at) (position_at at + 2) (two_bytes k) (Out.At (position_at at + 2))) where
+        (h : Wrote w x (position_at at) (position_at at + 2) (two_bytes k) (Ok (position_at at + 2))) where
       abbrev m : ℕ
       m = e - collected_at
 

@@ -12,11 +12,7 @@ use map::map::Map;
 pub fn clear_entries(entries: &mut [u16])
     ensures { entries.new ≡ replicate (length entries.old) 0 }
 {
-    let mut i = 0;
-    while i < entries.len() {
-        entries[i] = 0;
-        i += 1;
-    }
+    entries.fill(0);
 }
 
 /// The positions that the collected trees bear, which take `len` bytes: an entry for each. Later entries keep their

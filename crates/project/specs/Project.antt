@@ -1,12 +1,11 @@
 -- What a project asks of the area, and what it makes there.
 use Rattle.std.specs.Prelude.{List, map, ℕ, ◌+◌, ◌*◌, ◌≤◌, length}
-use Rattle.areas.specs.declared.area.Out.{Out}
 use Rattle.spec_trees.specs.Limits.{tree_max, depth_max, nest_max, work_min}
 use Rattle.spec_trees.specs.Lists.{All}
 use Rattle.spec_trees.specs.Tree.{Tree}
 use Rattle.spec_trees.specs.Bytes.{tree_bytes}
 use Rattle.spec_trees.specs.Within.{Ok, Allowed}
-use Rattle.areas.specs.Area.{IsAt, Wrote}
+use Rattle.areas.specs.Area.{IsAt, Wrote, Out}
 use Rattle.areas.specs.declared.span.Span.{Span}
 use Rattle.spec_queries.specs.Query.{Path, Data, Item}
 use Rattle.spec_queries.specs.Rules.{OkP⁺, NestedD, OkI}

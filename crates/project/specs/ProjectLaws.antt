@@ -1,15 +1,13 @@
 -- Laws of project: what each kind of item writes, and the items added one by one.
-use Rattle.std.specs.Prelude.{◌≡◌, List, map, ℕ, ◌+◌, ◌*◌, ◌≤◌, length}
+use Rattle.std.specs.Prelude.{◌≡◌, List, map, ℕ, ◌+◌, ◌*◌, ◌≤◌, length, Ok, Err}
 use Rattle.std.proofs.Math.Path.{refl, subst}
 use Rattle.std.proofs.Common.{sym, ap, ◌∙◌, arith}
 use Rattle.std.proofs.Math.ListN.{take}
-use Rattle.areas.specs.declared.area.Out.{Out}
-use Rattle.areas.specs.declared.area.Out.TheVariants.{At, TooLarge}
 use Rattle.spec_trees.specs.Limits.{tree_max, nest_max}
 use Rattle.spec_trees.specs.Lists.{All}
 use Rattle.spec_trees.specs.Tree.{bare_void}
 use Rattle.spec_trees.specs.Bytes.{tree_bytes}
-use Rattle.areas.specs.Area.{Wrote, field_end, span}
+use Rattle.areas.specs.Area.{Wrote, field_end, span, Out, too_large}
 use Rattle.areas.specs.declared.span.Span.{Span}
 use Rattle.areas.specs.AreaLaws.{is_keep, drop_more, wrote_keep, written}
 use Rattle.queries.specs.declared.item.ItemAt.{ItemAt}
@@ -24,8 +22,7 @@ use Rattle.spec_stages.specs.Merge.{merge, build}
 use Rattle.spec_stages.proofs.KeepLaws.{merge_ok, item_ok}
 use Rattle.spec_stages.specs.Project.{item, projected}
 use Rattle.build.specs.BuildLaws.{standing_void}
-use Rattle.data.specs.declared.value.Value.{Value}
-use Rattle.data.specs.Value.{WroteFound}
+use Rattle.data.specs.Value.{Value, WroteFound}
 use Rattle.data.specs.Write.{DataReady, Gives}
 use Rattle.data.specs.WriteDataLaws.{ready_other}
 use Rattle.place.specs.Writers.{WriterReady}
@@ -139,7 +136,7 @@ module _ {w q : List ℕ} {p e a b s se : ℕ} (h : Building OkI item_bytes w q 
 -- ---- the items, one by one
 
 -- the build begins with the bare void tree
-module _ {w u q : List ℕ} {c ce a b s se : ℕ} (h : ProjectReady w q (span c ce) (span a b) s) (k : Wrote w u s (s + tree_max) (tree_bytes bare_void) (At se)) where
+module _ {w u q : List ℕ} {c ce a b s se : ℕ} (h : ProjectReady w q (span c ce) (span a b) s) (k : Wrote w u s (s + tree_max) (tree_bytes bare_void) (Ok se)) where
   pub project_begun : length u ≡ length w → Building (All OkI) items_bytes u q (span c ce) (span a b) (span s se)
   project_begun l =
       let t = h.tree in
@@ -162,9 +159,9 @@ module _ {w u q : List ℕ} {c ce a b s se : ℕ} (h : ProjectReady w q (span c 
       (m is t bare_void oi hi ot (is_keep ht y h.below) (tt, tt) (written k (omega (arith, h.room)) refl))
 
 -- none is left
-pub items_done : {w q : List ℕ} {at ce a b s se : ℕ} → at ≡ ce → BuildsFrom w w q (span at ce) (span a b) (span s se) (At se)
+pub items_done : {w q : List ℕ} {at ce a b s se : ℕ} → at ≡ ce → BuildsFrom w w q (span at ce) (span a b) (span s se) (Ok se)
 items_done {w} {q} {at} {ce} {a} {b} {s} {se} z is t x oi hi ot ht ox hx =
-    subst (λ l. Made w w s (build x (map (item t) l)) (At se)) (sym (list_none item_f is z hi)) (made_done x hx)
+    subst (λ l. Made w w s (build x (map (item t) l)) (Ok se)) (sym (list_none item_f is z hi)) (made_done x hx)
 
 module _ {w q : List ℕ} {at ce a b s se m : ℕ} (n : at ≡ ce → ⊥) (g : m ≡ field_end q at) where
   module _ (h : Building (All OkI) items_bytes w q (span at ce) (span a b) (span s se)) where
@@ -184,7 +181,7 @@ module _ {w q : List ℕ} {at ce a b s se m : ℕ} (n : at ≡ ce → ⊥) (g : 
           small = h.small;
         }
 
-    pub items_rest : {u : List ℕ} {o : Out} {e : ℕ} → AddsItem w u q (span at m) (span a b) (span s se) o → o ≡ At e → length u ≡ length w
+    pub items_rest : {u : List ℕ} {o : Out} {e : ℕ} → AddsItem w u q (span at m) (span a b) (span s se) o → o ≡ Ok e → length u ≡ length w
         → Building (All OkI) items_bytes u q (span m ce) (span a b) (span s e)
     items_rest {u} {o} {e} k z l =
         let c = list_parts item_f h.asked.value g n h.asked.value_is in
@@ -204,14 +201,14 @@ module _ {w q : List ℕ} {at ce a b s se m : ℕ} (n : at ≡ ce → ⊥) (g : 
         }
 
   module _ {u : List ℕ} {o : Out} (k : AddsItem w u q (span at m) (span a b) (span s se) o) where
-    pub items_stop : o ≡ TooLarge → BuildsFrom w u q (span at ce) (span a b) (span s se) TooLarge
+    pub items_stop : o ≡ Err too_large → BuildsFrom w u q (span at ce) (span a b) (span s se) (Err too_large)
     items_stop z is t x oi hi ot ht ox hx =
         let c = list_parts item_f is g n hi in
         let oi2 = subst (All OkI) c.same oi in
-        subst (λ l. Made w u s (build x (map (item t) l)) TooLarge) (sym c.same)
+        subst (λ l. Made w u s (build x (map (item t) l)) (Err too_large)) (sym c.same)
         (made_stop (k c.first t x oi2.0 c.first_is ot ht ox hx) (map (item t) c.rest) z)
 
-    pub items_next : {e : ℕ} → b ≤ s → o ≡ At e → (u2 : List ℕ) (r : Out) → BuildsFrom u u2 q (span m ce) (span a b) (span s e) r → BuildsFrom w u2 q (span at ce) (span a b) (span s se) r
+    pub items_next : {e : ℕ} → b ≤ s → o ≡ Ok e → (u2 : List ℕ) (r : Out) → BuildsFrom u u2 q (span m ce) (span a b) (span s e) r → BuildsFrom w u2 q (span at ce) (span a b) (span s se) r
     items_next {e} l z u2 r k2 is t x oi hi ot ht ox hx =
         let c = list_parts item_f is g n hi in
         let oi2 = subst (All OkI) c.same oi in

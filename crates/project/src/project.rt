@@ -4,7 +4,7 @@ ghost use Rattle.spec_queries.specs.Rules.{OkI};
 ghost use Rattle.queries.specs.Places.{item_bytes};
 ghost use Rattle.project.specs.Project.{PlaceReady, WritesPlace, ItemReady, WritesItem, Building, AddsItem, ProjectReady, Projects};
 
-use areas::area::{Out, field_end};
+use areas::area::{TooLarge, field_end};
 use areas::span::Span;
 use build::part::{add_written, begin, place_value};
 use data::data::write_data;
@@ -21,7 +21,7 @@ fn write_place(
     target: Span,
     tree: Span,
     room: Span,
-) -> Out
+) -> Result<usize, TooLarge>
     requires { PlaceReady work.old query.now datum target tree room }
     ensures { WritesPlace work.old work.new query.now datum target tree room result }
 {
@@ -35,7 +35,13 @@ fn write_place(
 }
 
 /// Writes what the item makes of the tree.
-fn write_item(work: &mut [u8], query: &[u8], item: Span, tree: Span, room: Span) -> Out
+fn write_item(
+    work: &mut [u8],
+    query: &[u8],
+    item: Span,
+    tree: Span,
+    room: Span,
+) -> Result<usize, TooLarge>
     requires { ItemReady work.old query.now item tree room }
     ensures { WritesItem work.old work.new query.now item tree room result }
 {
@@ -47,7 +53,13 @@ fn write_item(work: &mut [u8], query: &[u8], item: Span, tree: Span, room: Span)
 }
 
 /// Adds what the item makes of the tree to the tree so far.
-fn add_item(work: &mut [u8], query: &[u8], item: Span, tree: Span, built: Span) -> Out
+fn add_item(
+    work: &mut [u8],
+    query: &[u8],
+    item: Span,
+    tree: Span,
+    built: Span,
+) -> Result<usize, TooLarge>
     requires { Building OkI item_bytes work.old query.now item tree built }
     ensures { AddsItem work.old work.new query.now item tree built result }
 {
@@ -61,7 +73,13 @@ fn add_item(work: &mut [u8], query: &[u8], item: Span, tree: Span, built: Span) 
 }
 
 /// Makes at `at` what the items make of the tree, which stands below.
-pub fn project(work: &mut [u8], query: &[u8], items: Span, tree: Span, at: usize) -> Out
+pub fn project(
+    work: &mut [u8],
+    query: &[u8],
+    items: Span,
+    tree: Span,
+    at: usize,
+) -> Result<usize, TooLarge>
     requires { ProjectReady work.old query.now items tree at }
     ensures { Projects work.old work.new query.now items tree at result }
 {
@@ -70,18 +88,15 @@ pub fn project(work: &mut [u8], query: &[u8], items: Span, tree: Span, at: usize
     let mut from = items.from;
     while from != end {
         let m = field_end(query, from);
-        let one = add_item(
+        let e = add_item(
             work,
             query,
             Span { from, to: m },
             tree,
             Span { from: at, to },
-        );
-        let Out::At(e) = one else {
-            return Out::TooLarge;
-        };
+        )?;
         to = e;
         from = m;
     }
-    Out::At(to)
+    Ok(to)
 }

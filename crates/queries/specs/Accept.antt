@@ -9,12 +9,9 @@ use Rattle.spec_trees.specs.Readers.{fields}
 use Rattle.spec_trees.specs.Decode.{array_r}
 use Rattle.spec_queries.specs.Decode.{path_r, criterion_r, divisor_r, data_r, item_r, pair_r, aggregate_r, pairs_r, stage_r, query_r}
 use Rattle.areas.specs.declared.span.Span.{Span}
-use Rattle.queries.specs.declared.check.Told.{Told}
-use Rattle.queries.specs.declared.check.Told.TheVariants.{Good, Fields}
-use Rattle.queries.specs.declared.check.Told.TheVariants as Told
 use Rattle.queries.specs.declared.check.Next.{Next}
 use Rattle.queries.specs.declared.check.Next.TheVariants.{Behind, Inside}
-use Rattle.queries.specs.declared.check.Next.TheVariants as Next
+use Rattle.std.specs.Prelude.{Option as Maybe, Some, None}
 use Rattle.queries.specs.declared.table.Child.{Child}
 use Rattle.queries.specs.declared.table.Rule.{Rule}
 use Rattle.queries.specs.Table.{allowed, child_at, rule_at}
@@ -50,8 +47,8 @@ child_ok ok ch f = allowed ch f.0 (length f.1) && ok f
 
 -- the children behind n others: not too many, each as the rule says, not too few
 unfoldable pub children_ok : (Field → Bool) → Rule → ℕ → List Field → Bool
-children_ok ok r n [] = leb r.3 n
-children_ok ok r n (f ∷ fs) = ltb n r.4 && (child_ok ok (child_at r n) f && children_ok ok r (suc n) fs)
+children_ok ok r n [] = leb r.least n
+children_ok ok r n (f ∷ fs) = ltb n r.most && (child_ok ok (child_at r n) f && children_ok ok r (suc n) fs)
 
 -- a content that is those children
 unfoldable pub content_ok : (Field → Bool) → Rule → ℕ → List ℕ → Bool
@@ -79,16 +76,11 @@ unfoldable pub by_table : ℕ → ℕ → List ℕ → Bool
 by_table d t c = cond (nested t) (deeper d t c) (by_rule nest_max t c)
 
 -- ---- the walk
--- the check of a content that holds no fields
-abbrev pub told_of : Bool → Told
-told_of true = Good
-told_of false = Told.Bad
-
 -- what is told of a field, however deep criteria and data may nest
-abbrev pub Tells : ℕ → List ℕ → Told → Type 0
-Tells t c Good = (d : ℕ) → field_ok d (t, c) ≡ true
-Tells t c Fields = leaf t ≡ false
-Tells t c Told.Bad = (d : ℕ) → field_ok d (t, c) ≡ false
+abbrev pub Tells : ℕ → List ℕ → Maybe Bool → Type 0
+Tells t c (Some true) = (d : ℕ) → field_ok d (t, c) ≡ true
+Tells t c None = leaf t ≡ false
+Tells t c (Some false) = (d : ℕ) → field_ok d (t, c) ≡ false
 
 -- whether a rule's children behind n others stand in s from a place on
 abbrev pub rest_ok : ℕ → Rule → ℕ → List ℕ → ℕ → ℕ → Bool
@@ -108,7 +100,7 @@ pub record Held (x : Rule) (n : ℕ) (s : List ℕ) (rest : Span) (t : ℕ) (c :
   pub within : c.to ≤ rest.to
   pub same : (d : ℕ) → rest_ok d x n s rest.from rest.to ≡ field_ok d (t, slice c.from c.to s) && rest_ok d x (n + 1) s c.to rest.to
 
-abbrev pub NextIs : Rule → ℕ → List ℕ → Span → Next → Type 0
-NextIs x n s rest (Behind e) = Passed x n s rest e
-NextIs x n s rest (Inside t c) = Held x n s rest t c
-NextIs x n s rest Next.Bad = (d : ℕ) → rest_ok d x n s rest.from rest.to ≡ false
+abbrev pub NextIs : Rule → ℕ → List ℕ → Span → Maybe Next → Type 0
+NextIs x n s rest (Some (Behind e)) = Passed x n s rest e
+NextIs x n s rest (Some (Inside f)) = Held x n s rest f.tag f.content
+NextIs x n s rest None = (d : ℕ) → rest_ok d x n s rest.from rest.to ≡ false

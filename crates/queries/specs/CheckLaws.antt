@@ -2,86 +2,40 @@
 use Rattle.std.specs.Prelude.{◌≡◌, List, [], ◌∷◌, Bool, true, ◌&&◌, length, get_or, eqb, ltb}
 use Rattle.std.proofs.Math.Path.{refl, ap}
 use Rattle.std.proofs.Common.{sym, subst, ◌∙◌, add-zero}
-use Rattle.std.proofs.Math.Bool.{false, or-true, or-false}
+use Rattle.std.proofs.Math.Bool.{false}
+use Rattle.std.specs.List.{list_all, range_with_len}
 use Rattle.std.proofs.Math.Option.{Option, none, some, map}
 use Prim.Native.Nat.{ℕ, zero, suc, ◌+◌, ◌-◌, ◌*◌, ◌≤◌, ◌<◌}
 use Rattle.std.proofs.Math.Numerals.{add-one}
 use native.Mathlib.Omega.{arith}
 use Rattle.std.proofs.Math.Seq.{slice, slice-cons, slice_empty, length-slice, take-length}
 use Rattle.std.proofs.Math.Dec.{leb}
-use borrow.Author.Tests.{eq-eqb, ne_eqb, le-leb, lt-leb, lt-ltb, le-ltb}
+use borrow.Author.Tests.{ne_eqb, le-leb, lt-leb, lt-ltb, le-ltb}
 use Rattle.spec_trees.specs.Options.{only, maybe, some?}
 use Rattle.spec_trees.specs.Lists.{all}
-use Rattle.spec_trees.specs.Limits.{query_max, path_max, depth_max, divisor_max}
+use Rattle.spec_trees.specs.Limits.{query_max, path_max, depth_max}
 use Rattle.spec_trees.specs.Tree.{is_label}
 use Rattle.spec_trees.specs.Bytes
 use Rattle.spec_trees.specs.Readers.{fields, inside, one, tagged, low_value, big_value, well_formed, tested}
 use Rattle.spec_trees.specs.Decode.{array_r}
 use Rattle.areas.specs.declared.span.Span.{Span}
 use Rattle.areas.specs.Area.{span}
-use Rattle.format.specs.declared.head.Head.{Head}
-use Rattle.format.specs.declared.head.Head.TheVariants.{Field, Nothing}
-use Rattle.format.specs.declared.check.Check.TheVariants.{Accepted, Overlong, Malformed}
-use Rattle.format.specs.Head.{head_at, span_at}
+use Rattle.format.specs.declared.head.FieldAt.{FieldAt}
+use Rattle.format.specs.declared.check.Fault.TheVariants.{Overlong, Malformed}
+use Rattle.format.specs.Head.{Head, field_at, head_at, span_at}
 use Rattle.format.specs.Check.{array_ok, check_of}
 use Rattle.format.specs.CheckLaws.{check_some, check_none}
 use Rattle.format.specs.HeadLaws.{head_found, fields_nothing, fields_end, inside_one, span_none}
 use Rattle.spec_queries.specs.Query.{Stage, is_path, is_divisor}
 use Rattle.spec_queries.specs.Decode.{path_r, divisor_r, query_r, decode_query, read_query}
-use Rattle.queries.specs.Steps.{count_in, step_in}
-use Rattle.queries.specs.declared.check.Told.{Told}
-use Rattle.queries.specs.declared.check.Told.TheVariants.{Good, Fields}
-use Rattle.queries.specs.declared.check.Told.TheVariants as Told
+use Rattle.queries.specs.Steps.{step_in}
 use Rattle.queries.specs.declared.check.Next.{Next}
 use Rattle.queries.specs.declared.check.Next.TheVariants.{Behind, Inside}
-use Rattle.queries.specs.declared.check.Next.TheVariants as Next
-use Rattle.queries.specs.declared.table.Child.{Child}
+use Rattle.std.specs.Prelude.{Option as Maybe, Some, None, Ok, Err}
 use Rattle.queries.specs.declared.table.Rule.{Rule}
-use Rattle.queries.specs.Table.{may_be, allowed, kind_at, child_at}
-use Rattle.queries.specs.Accept.{field_ok, child_ok, children_ok, content_ok, leaf, told_of, Tells, rest_ok, Passed, Held, NextIs}
+use Rattle.queries.specs.Table.{allowed, child_at}
+use Rattle.queries.specs.Accept.{field_ok, child_ok, children_ok, content_ok, leaf, Tells, rest_ok, Passed, Held, NextIs}
 use Rattle.queries.specs.ShapeLaws.{some_only}
-
--- ---- the table
-module _ (ch : Child) (t : ℕ) where
-  pub may_second : t ≡ ch.2 → may_be ch t ≡ true
-  unfolding may_be
-  may_second e = rw (eq-eqb t ch.2 e) (or-true (leb ch.0 t && leb t ch.1))
-
-  pub may_third : t ≡ ch.3 → may_be ch t ≡ true
-  unfolding may_be
-  may_third e = rw (eq-eqb t ch.3 e, or-true (eqb t ch.2)) (or-true (leb ch.0 t && leb t ch.1))
-
-  module _ (s : t ≡ ch.2 → ⊥) (h : t ≡ ch.3 → ⊥) where
-    pub may_below : t < ch.0 → may_be ch t ≡ false
-    unfolding may_be
-    may_below l = rw (ne_eqb t ch.2 s, ne_eqb t ch.3 h, lt-leb ch.0 t l) refl
-
-    pub may_range : ch.0 ≤ t → may_be ch t ≡ leb t ch.1
-    unfolding may_be
-    may_range l = rw (ne_eqb t ch.2 s, ne_eqb t ch.3 h, le-leb ch.0 t l) (or-false (leb t ch.1))
-
-  pub allowed_tag : (n : ℕ) → may_be ch t ≡ true → allowed ch t n ≡ leb ch.4 n
-  unfolding allowed
-  allowed_tag n e = rw e refl
-
-  pub allowed_other : (n : ℕ) → may_be ch t ≡ false → allowed ch t n ≡ false
-  unfolding allowed
-  allowed_other n e = rw e refl
-
-module _ (r : Rule) where
-  pub child_first : (n : ℕ) → n ≡ 0 → child_at r n ≡ kind_at r.0
-  unfolding child_at
-  child_first n e = rw e refl
-
-  pub child_second : (n : ℕ) → n ≡ 1 → child_at r n ≡ kind_at r.1
-  unfolding child_at
-  child_second n e = rw e refl
-
-  pub child_later : (n : ℕ) → (n ≡ 0 → ⊥) → (n ≡ 1 → ⊥) → child_at r n ≡ kind_at r.2
-  unfolding child_at
-  child_later zero a b = absurd (a refl)
-  child_later (suc zero) a b = absurd (b refl)
-  child_later (suc (suc n)) a b = refl
 
 -- ---- paths
 some_if : {A : Type 0} (b : Bool) (x : A) → some? (only b (some x)) ≡ b
@@ -97,12 +51,6 @@ short_path : (p : List ℕ) → length p ≤ path_max → is_path p ≡ all is_l
 unfolding is_path
 short_path p l = rw (le-leb (length p) path_max l) refl
 
-pub steps_number : (from to : ℕ) → count_in from to ≡ to - from
-steps_number from to = refl
-
-pub path_start : (s : List ℕ) (from to : ℕ) → all is_label (slice (from + 0) to s) ≡ all is_label (slice from to s)
-path_start s from to = rw (add-zero from) refl
-
 module _ (s : List ℕ) (from to : ℕ) (within : to ≤ length s) where
   pub path_long : path_max < to - from → is_path (slice from to s) ≡ false
   path_long l = long_path (slice from to s) (omega (arith, length-slice from to s within))
@@ -110,23 +58,18 @@ module _ (s : List ℕ) (from to : ℕ) (within : to ≤ length s) where
   pub path_short : to - from ≤ path_max → is_path (slice from to s) ≡ all is_label (slice from to s)
   path_short l = short_path (slice from to s) (omega (arith, length-slice from to s within))
 
-  module _ (i : ℕ) (more : from + i < to) where
-    step : slice (from + i) to s ≡ step_in s from i ∷ slice (from + (i + 1)) to s
-    step =
-        let q : suc (from + i) ≡ from + (i + 1) = omega arith in
-        slice-cons (from + i) to s 0 more within ∙ ap (λ k. get_or s (from + i) 0 ∷ slice k to s) q
-
-    pub path_next : is_label (step_in s from i) ≡ true → all is_label (slice (from + i) to s) ≡ all is_label (slice (from + (i + 1)) to s)
-    unfolding all
-    path_next e = ap (all is_label) step ∙ rw e refl
-
-    pub path_bad : is_label (step_in s from i) ≡ false → all is_label (slice (from + i) to s) ≡ false
-    unfolding all
-    path_bad e = ap (all is_label) step ∙ rw e refl
-
-  pub path_end : (i : ℕ) → from + i ≡ to → all is_label (slice (from + i) to s) ≡ true
+  -- n steps from the step i on, to the end
+  labels_from : (n i : ℕ) → from + i + n ≡ to → list_all (λ k. is_label (step_in s from k)) (range_with_len i n) ≡ all is_label (slice (from + i) to s)
   unfolding all
-  path_end i e = rw (e, slice_empty to s) refl
+  labels_from zero i e = let q : from + i ≡ to = omega arith in rw (q, slice_empty to s) refl
+  labels_from (suc n) i e =
+      let q : suc (from + i) ≡ from + (i + 1) = omega arith in
+      ap (λ x. is_label (step_in s from i) && x) (labels_from n (i + 1) (omega arith))
+      ∙ sym (ap (all is_label) (slice-cons (from + i) to s 0 (omega arith) within ∙ ap (λ k. get_or s (from + i) 0 ∷ slice k to s) q))
+
+  -- so few steps, each of them a label: the code's test is that of a path
+  pub path_labels : from ≤ to → to - from ≤ path_max → list_all (λ k. is_label (step_in s from k)) (range_with_len 0 (to - from)) ≡ is_path (slice from to s)
+  path_labels o l = labels_from (to - from) 0 (omega arith) ∙ (rw (add-zero from) refl ∙ sym (path_short l))
 
 -- ---- divisors
 divisor_tests : (c : List ℕ) → some? (divisor_r (46, c)) ≡ eqb (length c) 2 && is_divisor (big_value c)
@@ -148,16 +91,8 @@ module _ (s : List ℕ) (from to : ℕ) (within : to ≤ length s) where
         slice-cons from to s 0 (omega arith) within
         ∙ ap (λ x. get_or s from 0 ∷ x) (slice-cons (suc from) to s 0 (omega arith) within ∙ rw (e, slice_empty to s, add-one) refl)
 
-    divisor_is : some? (divisor_r (46, slice from to s)) ≡ is_divisor n
+    pub divisor_is : some? (divisor_r (46, slice from to s)) ≡ is_divisor n
     divisor_is = divisor_tests (slice from to s) ∙ rw (content, two_bytes_lem, ← q) refl
-
-    pub divisor_low : n < 1 → some? (divisor_r (46, slice from to s)) ≡ false
-    unfolding is_divisor
-    divisor_low l = divisor_is ∙ rw (lt-leb 1 n l) refl
-
-    pub divisor_high : 1 ≤ n → some? (divisor_r (46, slice from to s)) ≡ leb n divisor_max
-    unfolding is_divisor
-    divisor_high l = divisor_is ∙ rw (le-leb 1 n l) refl
 
 -- ---- fields by their tag
 module _ (d t : ℕ) (c : List ℕ) where
@@ -195,78 +130,78 @@ and_bad true b c e = rw e refl
 and_bad false b c e = refl
 
 module _ (s : List ℕ) (at end : ℕ) (within : end ≤ length s) (ok : Bytes.Field → Bool) (x : Rule) (n : ℕ) where
-  module _ (t f e : ℕ) (h : head_at s at end ≡ Field t f e) where
-    children_next : ltb n x.4 && child_ok ok (child_at x n) (t, slice f e s) ≡ true → content_ok ok x n (slice at end s) ≡ content_ok ok x (n + 1) (slice e end s)
+  module _ (t f e : ℕ) (h : head_at s at end ≡ Some (field_at t f e)) where
+    children_next : ltb n x.most && child_ok ok (child_at x n) (t, slice f e s) ≡ true → content_ok ok x n (slice at end s) ≡ content_ok ok x (n + 1) (slice e end s)
     unfolding content_ok children_ok
     children_next k =
         ap (maybe false (children_ok ok x n)) (head_found s at end within t f e h).reads
         ∙ next_child (children_ok ok x n) (children_ok ok x (n + 1)) (t, slice f e s) (fields (slice e end s))
-        (λ fs. and_good (ltb n x.4) _ _ k ∙ rw add-one refl)
+        (λ fs. and_good (ltb n x.most) _ _ k ∙ rw add-one refl)
 
-    children_bad : ltb n x.4 && child_ok ok (child_at x n) (t, slice f e s) ≡ false → content_ok ok x n (slice at end s) ≡ false
+    children_bad : ltb n x.most && child_ok ok (child_at x n) (t, slice f e s) ≡ false → content_ok ok x n (slice at end s) ≡ false
     unfolding content_ok children_ok
     children_bad k =
         ap (maybe false (children_ok ok x n)) (head_found s at end within t f e h).reads
-        ∙ bad_child (children_ok ok x n) (t, slice f e s) (fields (slice e end s)) (λ fs. and_bad (ltb n x.4) _ _ k)
+        ∙ bad_child (children_ok ok x n) (t, slice f e s) (fields (slice e end s)) (λ fs. and_bad (ltb n x.most) _ _ k)
 
-    children_step : content_ok ok x n (slice at end s) ≡ (ltb n x.4 && child_ok ok (child_at x n) (t, slice f e s)) && content_ok ok x (n + 1) (slice e end s)
-    children_step = go (ltb n x.4 && child_ok ok (child_at x n) (t, slice f e s)) refl
+    children_step : content_ok ok x n (slice at end s) ≡ (ltb n x.most && child_ok ok (child_at x n) (t, slice f e s)) && content_ok ok x (n + 1) (slice e end s)
+    children_step = go (ltb n x.most && child_ok ok (child_at x n) (t, slice f e s)) refl
       where
-        go : (b : Bool) → ltb n x.4 && child_ok ok (child_at x n) (t, slice f e s) ≡ b → content_ok ok x n (slice at end s) ≡ b && content_ok ok x (n + 1) (slice e end s)
+        go : (b : Bool) → ltb n x.most && child_ok ok (child_at x n) (t, slice f e s) ≡ b → content_ok ok x n (slice at end s) ≡ b && content_ok ok x (n + 1) (slice e end s)
         go true k = children_next k
         go false k = children_bad k
 
-  pub children_nothing : at < end → head_at s at end ≡ Nothing → content_ok ok x n (slice at end s) ≡ false
+  pub children_nothing : at < end → head_at s at end ≡ None → content_ok ok x n (slice at end s) ≡ false
   unfolding content_ok maybe
   children_nothing l h = ap (maybe false (children_ok ok x n)) (fields_nothing s at end within l h)
 
-  pub children_end : at ≤ end → end ≤ at → content_ok ok x n (slice at end s) ≡ leb x.3 n
+  pub children_end : at ≤ end → end ≤ at → content_ok ok x n (slice at end s) ≡ leb x.least n
   unfolding content_ok children_ok maybe
   children_end a b = let q : at ≡ end = omega arith in rw q (ap (maybe false (children_ok ok x n)) (fields_end s end))
 
 -- ---- one child
 module _ (d n : ℕ) (x : Rule) (t : ℕ) (c : List ℕ) where
-  child_over : x.4 ≤ n → ltb n x.4 && child_ok (field_ok d) (child_at x n) (t, c) ≡ false
-  child_over l = rw (le-ltb n x.4 l) refl
+  child_over : x.most ≤ n → ltb n x.most && child_ok (field_ok d) (child_at x n) (t, c) ≡ false
+  child_over l = rw (le-ltb n x.most l) refl
 
-  module _ (count : n < x.4) (len : ℕ) (q : len ≡ length c) where
-    child_passes : allowed (child_at x n) t len ≡ true → ltb n x.4 && child_ok (field_ok d) (child_at x n) (t, c) ≡ field_ok d (t, c)
+  module _ (count : n < x.most) (len : ℕ) (q : len ≡ length c) where
+    child_passes : allowed (child_at x n) t len ≡ true → ltb n x.most && child_ok (field_ok d) (child_at x n) (t, c) ≡ field_ok d (t, c)
     unfolding child_ok
-    child_passes k = rw (lt-ltb n x.4 count, ← q, k) refl
+    child_passes k = rw (lt-ltb n x.most count, ← q, k) refl
 
-    child_fails : allowed (child_at x n) t len ≡ false → ltb n x.4 && child_ok (field_ok d) (child_at x n) (t, c) ≡ false
+    child_fails : allowed (child_at x n) t len ≡ false → ltb n x.most && child_ok (field_ok d) (child_at x n) (t, c) ≡ false
     unfolding child_ok
-    child_fails k = rw (lt-ltb n x.4 count, ← q, k) refl
+    child_fails k = rw (lt-ltb n x.most count, ← q, k) refl
 
 -- ---- what is told of a field
 module _ (t : ℕ) (c : List ℕ) where
-  pub leaf_tells : (good : Bool) {r : Told} → r ≡ told_of good → ((d : ℕ) → good ≡ field_ok d (t, c)) → Tells t c r
-  leaf_tells true e q = subst (Tells t c) (sym e) (λ d. sym (q d))
-  leaf_tells false e q = subst (Tells t c) (sym e) (λ d. sym (q d))
+  pub leaf_tells : (good : Bool) → ((d : ℕ) → good ≡ field_ok d (t, c)) → Tells t c (Some good)
+  leaf_tells true q = λ d. sym (q d)
+  leaf_tells false q = λ d. sym (q d)
 
-  module _ {r : Told} (h : Tells t c r) where
-    told_good : r ≡ Good → (d : ℕ) → field_ok d (t, c) ≡ true
+  module _ {r : Maybe Bool} (h : Tells t c r) where
+    told_good : r ≡ Some true → (d : ℕ) → field_ok d (t, c) ≡ true
     told_good e = subst (Tells t c) e h
 
-    told_fields : r ≡ Fields → leaf t ≡ false
+    told_fields : r ≡ None → leaf t ≡ false
     told_fields e = subst (Tells t c) e h
 
-    told_bad : r ≡ Told.Bad → (d : ℕ) → field_ok d (t, c) ≡ false
+    told_bad : r ≡ Some false → (d : ℕ) → field_ok d (t, c) ≡ false
     told_bad e = subst (Tells t c) e h
 
 -- ---- the next child
 module _ (x : Rule) (n : ℕ) (s : List ℕ) (rest : Span) (within : rest.to ≤ length s) where
-  pub next_nothing : rest.from < rest.to → head_at s rest.from rest.to ≡ Nothing → (d : ℕ) → rest_ok d x n s rest.from rest.to ≡ false
+  pub next_nothing : rest.from < rest.to → head_at s rest.from rest.to ≡ None → (d : ℕ) → rest_ok d x n s rest.from rest.to ≡ false
   next_nothing m h d = children_nothing s rest.from rest.to within (field_ok d) x n m h
 
-  pub next_over : x.4 ≤ n → rest.from < rest.to → (d : ℕ) → rest_ok d x n s rest.from rest.to ≡ false
+  pub next_over : x.most ≤ n → rest.from < rest.to → (d : ℕ) → rest_ok d x n s rest.from rest.to ≡ false
   next_over l m d = go (head_at s rest.from rest.to) refl
     where
       go : (h : Head) → head_at s rest.from rest.to ≡ h → rest_ok d x n s rest.from rest.to ≡ false
-      go (Field t f e) h = children_bad s rest.from rest.to within (field_ok d) x n t f e h (child_over d n x t (slice f e s) l)
-      go Nothing h = next_nothing m h d
+      go (Some f) h = children_bad s rest.from rest.to within (field_ok d) x n f.tag f.content.from f.content.to h (child_over d n x f.tag (slice f.content.from f.content.to s) l)
+      go None h = next_nothing m h d
 
-  module _ (t f e : ℕ) (h : head_at s rest.from rest.to ≡ Field t f e) (count : n < x.4) where
+  module _ (t f e : ℕ) (h : head_at s rest.from rest.to ≡ Some (field_at t f e)) (count : n < x.most) where
     size : e - f ≡ length (slice f e s)
     size = sym (length-slice f e s (omega (arith, (head_found s rest.from rest.to within t f e h).stop)))
 
@@ -282,29 +217,29 @@ module _ (x : Rule) (n : ℕ) (s : List ℕ) (rest : Span) (within : rest.to ≤
       next_then : (d : ℕ) {b : Bool} → field_ok d (t, slice f e s) ≡ b → rest_ok d x n s rest.from rest.to ≡ b && rest_ok d x (n + 1) s e rest.to
       next_then d q = next_is d ∙ ap (λ b. b && rest_ok d x (n + 1) s e rest.to) q
 
-      module _ {r : Told} (told : Tells t (slice f e s) r) where
-        pub next_good : r ≡ Good → Passed x n s rest e
+      module _ {r : Maybe Bool} (told : Tells t (slice f e s) r) where
+        pub next_good : r ≡ Some true → Passed x n s rest e
         next_good q =
             let p = head_found s rest.from rest.to within t f e h in
             record { rises = omega (arith, p.start, p.order); within = p.stop; same = λ d. next_then d (told_good t (slice f e s) told q d) }
 
-        pub next_fields : r ≡ Fields → Held x n s rest t (span f e)
+        pub next_fields : r ≡ None → Held x n s rest t (span f e)
         next_fields q =
             let p = head_found s rest.from rest.to within t f e h in
             record { holds = told_fields t (slice f e s) told q; after = omega (arith, p.start); order = p.order; within = p.stop; same = next_is }
 
-        pub next_bad : r ≡ Told.Bad → (d : ℕ) → rest_ok d x n s rest.from rest.to ≡ false
+        pub next_bad : r ≡ Some false → (d : ℕ) → rest_ok d x n s rest.from rest.to ≡ false
         next_bad q d = next_then d (told_bad t (slice f e s) told q d)
 
 -- what the answer says
-module _ (x : Rule) (n : ℕ) (s : List ℕ) (rest : Span) {r : Next} (h : NextIs x n s rest r) where
-  pub is_behind : {e : ℕ} → r ≡ Behind e → Passed x n s rest e
+module _ (x : Rule) (n : ℕ) (s : List ℕ) (rest : Span) {r : Maybe Next} (h : NextIs x n s rest r) where
+  pub is_behind : {e : ℕ} → r ≡ Some (Behind e) → Passed x n s rest e
   is_behind q = subst (NextIs x n s rest) q h
 
-  pub is_inside : {t : ℕ} {c : Span} → r ≡ Inside t c → Held x n s rest t c
+  pub is_inside : {f : FieldAt} → r ≡ Some (Inside f) → Held x n s rest f.tag f.content
   is_inside q = subst (NextIs x n s rest) q h
 
-  pub is_bad : r ≡ Next.Bad → (d : ℕ) → rest_ok d x n s rest.from rest.to ≡ false
+  pub is_bad : r ≡ None → (d : ℕ) → rest_ok d x n s rest.from rest.to ≡ false
   is_bad q = subst (NextIs x n s rest) q h
 
 -- it decides, and then what is behind it
@@ -325,7 +260,7 @@ unfolding query_r tagged only some?
 query_tag t c n = rw (ne_eqb t 16 n) refl
 
 -- ---- the public check
-pub query_over : (b : List ℕ) → query_max < length b → check_of (read_query b) ≡ Overlong
+pub query_over : (b : List ℕ) → query_max < length b → check_of (read_query b) ≡ Err Overlong
 unfolding read_query tested
 query_over b l = rw (lt-leb (length b) query_max l) refl
 
@@ -337,17 +272,17 @@ module _ (b : List ℕ) (fits : length b ≤ query_max) where
   unfolding read_query tested decode_query only one_query
   checked = rw (le-leb (length b) query_max fits, take-length b) refl
 
-  module _ (t f e : ℕ) (h : span_at b 0 (length b) ≡ Field t f e) where
+  module _ (t f e : ℕ) (h : span_at b 0 (length b) ≡ Some (field_at t f e)) where
     read : some? one_query ≡ some? (query_r (t, slice f e b))
     unfolding one_query
     read = inside_one b 0 (length b) (omega arith) (λ q. q) query_r t f e h
 
-    pub query_accepted : some? (query_r (t, slice f e b)) ≡ true → check_of (read_query b) ≡ Accepted
+    pub query_accepted : some? (query_r (t, slice f e b)) ≡ true → check_of (read_query b) ≡ Ok tt
     query_accepted k = checked ∙ check_some one_query (read ∙ k)
 
-    pub query_malformed : some? (query_r (t, slice f e b)) ≡ false → check_of (read_query b) ≡ Malformed
+    pub query_malformed : some? (query_r (t, slice f e b)) ≡ false → check_of (read_query b) ≡ Err Malformed
     query_malformed k = checked ∙ check_none one_query (read ∙ k)
 
-  pub query_nothing : span_at b 0 (length b) ≡ Nothing → check_of (read_query b) ≡ Malformed
+  pub query_nothing : span_at b 0 (length b) ≡ None → check_of (read_query b) ≡ Err Malformed
   unfolding one_query some?
   query_nothing h = checked ∙ check_none one_query (ap some? (span_none b 0 (length b) (omega arith) (λ q. q) query_r (omega arith) h))

@@ -11,3 +11,4 @@ pub mod PartLaws
 pub mod PlaceLaws
 pub mod StepLaws
 pub mod TreesLaws
+pub mod TestLaws

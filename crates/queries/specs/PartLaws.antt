@@ -12,7 +12,6 @@ use Rattle.format.specs.Stand.{Holds}
 use Rattle.spec_trees.specs.Lists.{All}
 use Rattle.spec_queries.specs.Query.{Data, Datas, ended, more}
 use Rattle.spec_queries.specs.Bytes.{data_f, data_fs}
-use Rattle.spec_queries.specs.Rules.{OkD, OkDs}
 use Rattle.queries.specs.Places.{HoldsOk, OnePart, TwoParts, ThreeParts, data_bytes, datas_bytes}
 
 -- ---- fields, one behind another

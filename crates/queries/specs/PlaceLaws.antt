@@ -5,7 +5,6 @@ use Rattle.std.proofs.Math.Path.{subst}
 use native.Mathlib.Omega.{arith}
 use Rattle.std.proofs.Math.ListN.{get_or}
 use Rattle.spec_trees.specs.Limits.{divisor_max}
-use Rattle.spec_trees.specs.Lists.{All}
 use Rattle.spec_trees.specs.Bytes.{field_bytes, bytes, low, big, array_f}
 use Rattle.areas.specs.Area.{Is, field_end, span}
 use Rattle.areas.specs.declared.span.Span.{Span}
@@ -14,8 +13,8 @@ use Rattle.spec_trees.specs.OptionLaws.{T_and}
 use Rattle.format.specs.Stand.{Holds}
 use Rattle.spec_queries.specs.Query.{Route, Criterion, always, exists, equal, same, negated, both, either, Data, literal, path, listed, test, choice, reduced, Datas, Item, keep, place, Pair, pair_with, Stage, match, unwind, project, group, lookup, is_divisor}
 use Rattle.spec_queries.specs.Bytes.{path_f, route_f, criterion_f, divisor_f, data_f, data_fs, item_f, pair_tag, pair_f, pairs_f, stage_f, query_f, query_bytes}
-use Rattle.spec_queries.specs.Rules.{OkD, OkS, OkQ}
-use Rattle.queries.specs.Places.{TagNot, path_bytes, route_bytes, array_trees, criterion_bytes, data_bytes, datas_bytes, item_bytes, items_bytes, pair_bytes, pairs_bytes, stage_bytes, stages_bytes, HoldsOk, OnePart, TwoParts, ThreeParts, CriterionIs, ReadsCriterion, divisor_at, ReducedIs, DataIs, ReadsData, ItemIs, ReadsItem, GroupIs, LookupIs, StageIs, ReadsStage, ReadsQuery}
+use Rattle.spec_queries.specs.Rules.{OkD}
+use Rattle.queries.specs.Places.{TagNot, path_bytes, route_bytes, array_trees, criterion_bytes, data_bytes, datas_bytes, item_bytes, items_bytes, pair_bytes, stage_bytes, stages_bytes, OnePart, TwoParts, ThreeParts, CriterionIs, ReadsCriterion, divisor_at, ReducedIs, DataIs, ReadsData, ItemIs, ReadsItem, GroupIs, LookupIs, StageIs, ReadsStage}
 use Rattle.queries.specs.PartLaws.{two_inside, three_inside, one_whole, one_held, two_whole, two_held, two_mixed, three_whole}
 use Rattle.queries.specs.declared.criterion.CriterionAt.{CriterionAt}
 use Rattle.queries.specs.declared.data.DataAt.{DataAt}

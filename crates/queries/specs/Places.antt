@@ -1,7 +1,7 @@
 -- What stands at a place of a query's bytes, and what the answers of `criterion`, `data`, `item` and `stage` say of
 -- it. An answer names a constructor, and where its parts stand: paths, criteria and data by their whole fields, an array
 -- by its trees, pairs by themselves.
-use Rattle.std.specs.Prelude.{◌≡◌, List, map, Bool, ℕ, ◌+◌, ◌*◌, ◌≤◌, get_or}
+use Rattle.std.specs.Prelude.{◌≡◌, List, map, Bool, ℕ, ◌+◌, ◌*◌, ◌≤◌, get_or, Option, Some, None}
 use Rattle.spec_trees.specs.Limits.{aggregates_max, grouping_max}
 use Rattle.spec_trees.specs.Tree.{Tree, trees}
 use Rattle.spec_trees.specs.Bytes.{field_bytes, bytes}
@@ -187,6 +187,14 @@ pub record StageIs (q : List ℕ) (at : Span) (x : Stage) (r : StageAt) : Type 0
   pub project_is : (f : Span) → r ≡ StageAt.Project f → OnePart project items_bytes q at x f
   pub group_is : (f : GroupAt) → r ≡ StageAt.Group f → GroupIs q at x f
   pub lookup_is : (f : LookupAt) → r ≡ StageAt.Lookup f → LookupIs q at x f
+
+-- the parts of a group, if the stage is one
+abbrev pub group_of : StageAt → Option GroupAt
+group_of (StageAt.Match f) = None
+group_of (StageAt.Unwind f) = None
+group_of (StageAt.Project f) = None
+group_of (StageAt.Group g) = Some g
+group_of (StageAt.Lookup f) = None
 
 abbrev pub ReadsStage : (q : List ℕ) (at : Span) → StageAt → Type 0
 ReadsStage q at r = (x : Stage) → IsAt q at (stage_bytes x) → StageIs q at x r

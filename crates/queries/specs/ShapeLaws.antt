@@ -19,7 +19,8 @@ use Rattle.spec_trees.specs.Readers.{Reader, split, fields, inside, one, two, th
 use Rattle.format.specs.HeadLaws.{some_map}
 use Rattle.queries.specs.declared.table.Child.{Child}
 use Rattle.queries.specs.declared.table.Rule.{Rule}
-use Rattle.queries.specs.Table.{kind_at, no_child, child_at, rule, holds_nothing, holds_one, holds_two, holds_three, holds_many, never}
+use Rattle.queries.specs.declared.table.Kind.{Kind}
+use Rattle.queries.specs.Table.{kind_at, child_at, rule, holds_nothing, holds_one, holds_two, holds_three, holds_many, never}
 use Rattle.queries.specs.Accept.{child_ok, children_ok, content_ok}
 
 -- ---- tests
@@ -51,11 +52,11 @@ module _ (ok : Field → Bool) where
   Takes r ch = (f : Field) → some? (r f) ≡ child_ok ok ch f
 
   -- the same of a kind of the table
-  pub record Reads {A : Type 0} (r : Reader A) (k : ℕ) : Type 0 where
+  pub record Reads {A : Type 0} (r : Reader A) (k : Kind) : Type 0 where
     pub takes : Takes r (kind_at k)
 
   -- n children behind others, and no more; one_at is the last of them
-  module _ (i j k : ℕ) where
+  module _ (i j k : Kind) where
     abbrev exact : ℕ → Rule
     exact n = rule i j k n n
 
@@ -84,7 +85,7 @@ module _ (ok : Field → Bool) where
         some_bind (r f) _ (children_ok ok (exact (suc (suc (suc n)))) (suc n) fs) (λ a. two_at_lem (g a) s t (suc n) e p fs)
         ∙ rw (lt-ltb n (suc (suc (suc n))) (omega arith)) (and_same _ _ (h f) refl)
 
-  module _ {A : Type 0} (r : Reader A) (k n m : ℕ) (h : Takes r (kind_at k)) where
+  module _ {A : Type 0} (r : Reader A) (k : Kind) (n m : ℕ) (h : Takes r (kind_at k)) where
     kind_same : (i : ℕ) → child_at (holds_many k n m) i ≡ kind_at k
     unfolding child_at
     kind_same zero = refl
@@ -130,22 +131,22 @@ module _ (ok : Field → Bool) where
 
 -- ---- the five shapes
 module _ {ok : Field → Bool} where
-  pub one_ok : {A D : Type 0} {r : Reader A} {a : ℕ} (g : A → D) → Reads ok r a → (c : List ℕ) → some? (inside (one g r) c) ≡ content_ok ok (holds_one a) 0 c
+  pub one_ok : {A D : Type 0} {r : Reader A} {a : Kind} (g : A → D) → Reads ok r a → (c : List ℕ) → some? (inside (one g r) c) ≡ content_ok ok (holds_one a) 0 c
   unfolding child_at
-  one_ok {r = r} {a = a} g h = content_at_lem ok (holds_one a) (one g r) (one_at ok a no_child no_child g r 0 h.takes)
+  one_ok {r = r} {a = a} g h = content_at_lem ok (holds_one a) (one g r) (one_at ok a Kind.Nothing Kind.Nothing g r 0 h.takes)
 
-  pub two_ok : {A B D : Type 0} {r : Reader A} {s : Reader B} {a b : ℕ} (g : A → B → D) → Reads ok r a → Reads ok s b
+  pub two_ok : {A B D : Type 0} {r : Reader A} {s : Reader B} {a b : Kind} (g : A → B → D) → Reads ok r a → Reads ok s b
       → (c : List ℕ) → some? (inside (two g r s) c) ≡ content_ok ok (holds_two a b) 0 c
   unfolding child_at
-  two_ok {r = r} {s = s} {a = a} {b = b} g h e = content_at_lem ok (holds_two a b) (two g r s) (two_at_lem ok a b no_child g r s 0 h.takes e.takes)
+  two_ok {r = r} {s = s} {a = a} {b = b} g h e = content_at_lem ok (holds_two a b) (two g r s) (two_at_lem ok a b Kind.Nothing g r s 0 h.takes e.takes)
 
-  pub three_ok : {A B C D : Type 0} {r : Reader A} {s : Reader B} {t : Reader C} {i j k : ℕ} (g : A → B → C → D) → Reads ok r i → Reads ok s j → Reads ok t k
+  pub three_ok : {A B C D : Type 0} {r : Reader A} {s : Reader B} {t : Reader C} {i j k : Kind} (g : A → B → C → D) → Reads ok r i → Reads ok s j → Reads ok t k
       → (c : List ℕ) → some? (inside (three g r s t) c) ≡ content_ok ok (holds_three i j k) 0 c
   unfolding child_at
   three_ok {r = r} {s = s} {t = t} {i = i} {j = j} {k = k} g h e p =
       content_at_lem ok (holds_three i j k) (three g r s t) (three_at ok i j k g r s t 0 h.takes e.takes p.takes)
 
-  pub many_ok : {A D : Type 0} {r : Reader A} {a : ℕ} (g : List A → D) (n m : ℕ) → Reads ok r a → (c : List ℕ) → some? (inside (many g n m r) c) ≡ content_ok ok (holds_many a n m) 0 c
+  pub many_ok : {A D : Type 0} {r : Reader A} {a : Kind} (g : List A → D) (n m : ℕ) → Reads ok r a → (c : List ℕ) → some? (inside (many g n m r) c) ≡ content_ok ok (holds_many a n m) 0 c
   many_ok {r = r} {a = a} g n m h = content_at_lem ok (holds_many a n m) (many g n m r) (many_at ok r a n m h.takes g)
 
 -- no content

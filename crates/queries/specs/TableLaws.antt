@@ -1,5 +1,5 @@
--- The table says what the readers read: one theorem over all tags, `table-agrees`.
-use Rattle.std.specs.Prelude.{◌≡◌, List, [], ◌∷◌, Bool, ◌&&◌, ◌||◌, ◌⊎◌, ℕ, zero, suc, ◌+◌, ◌-◌, ◌*◌, ◌≤◌, ◌<◌, length, get_or, T, eqb, ltb}
+-- The table says what the readers read: one theorem over all tags, `table_agrees`.
+use Rattle.std.specs.Prelude.{◌≡◌, List, [], ◌∷◌, Bool, ◌&&◌, ◌||◌, ◌⊎◌, ℕ, zero, suc, ◌+◌, ◌-◌, ◌≤◌, ◌<◌, length, T, eqb, ltb}
 use Rattle.std.proofs.Math.Path.{refl}
 use Rattle.std.proofs.Common.{sym, ap, subst, ◌∙◌, inl, inr, sub-one, zero-add, add-zero, leb→le}
 use Rattle.std.proofs.Math.Bool.{true, false, cond, and-true, and-false}
@@ -16,7 +16,8 @@ use Rattle.spec_trees.specs.Decode.{array_with, array_r}
 use Rattle.spec_trees.specs.OptionLaws.{T_and}
 use Rattle.spec_queries.specs.Query.{always, exists, equal, same, negated, both, either, literal, path, listed, test, choice, reduced, datas, keep, place, pair_of, total_pair, match, unwind, project, group, lookup}
 use Rattle.spec_queries.specs.Decode.{path_r, path_r⁺, route_r, criterion_r, criterion_table, divisor_r, data_r, data_table, item_r, item_table, pair_r, aggregate_r, pairs_r, stage_r, stage_table, query_r}
-use Rattle.queries.specs.Table.{child, no_tags, range, may_be, allowed, kinds, kind_at, no_child, array_child, stage_child, path_child, route_child, given_child, criterion_child, data_child, divisor_child, item_child, pair_child, aggregate_child, aggregates_child, grouping_child, rule, never, rules, rule_at, rule_bytes}
+use Rattle.queries.specs.declared.table.Kind.TheVariants as Kind
+use Rattle.queries.specs.Table.{child, range, may_be, allowed, kind_at, never, rules, rule_at}
 use Rattle.queries.specs.Accept.{criterion_ok, data_ok, field_ok, child_ok, content_ok, by_rule, leaf, nested, deeper, by_table}
 use Rattle.queries.specs.ShapeLaws.{some_only, Takes, Reads, one_ok, two_ok, three_ok, many_ok, none_ok, never_ok}
 
@@ -85,34 +86,34 @@ chosen_outside low high (x ∷ xs) t c w o =
     differ (inr l) a b e = omega arith
 
 -- where no child may stand, no byte is the tag of one
-pub none_allowed : (t n : ℕ) → t < 256 → allowed (kind_at no_child) t n ≡ false
+pub none_allowed : (t n : ℕ) → t < 256 → allowed (kind_at Kind.Nothing) t n ≡ false
 unfolding kind_at allowed may_be
 none_allowed zero n l = refl
 none_allowed (suc t) n l = rw (ne_eqb (suc t) 256 (λ e. omega arith), le-leb 1 (suc t) (omega arith), lt-leb (suc t) 0 (omega arith)) refl
 
 module _ (d : ℕ) where
-  array_reads : Reads (field_ok d) array_r array_child
+  array_reads : Reads (field_ok d) array_r Kind.Array
   unfolding kind_at field_ok array_r array_with
   array_reads = record { takes = tagged_reads d 1 _ (λ c. refl) }
 
-  path_reads : Reads (field_ok d) path_r path_child
+  path_reads : Reads (field_ok d) path_r Kind.Path
   unfolding kind_at field_ok path_r
   path_reads = record { takes = tagged_reads d 32 _ (λ c. refl) }
 
-  route_reads : Reads (field_ok d) route_r route_child
+  route_reads : Reads (field_ok d) route_r Kind.Route
   unfolding kind_at
   route_reads = record { takes = path_reads.takes }
 
-  divisor_reads : Reads (field_ok d) divisor_r divisor_child
+  divisor_reads : Reads (field_ok d) divisor_r Kind.Divisor
   unfolding kind_at field_ok divisor_r
   divisor_reads = record { takes = tagged_reads d 46 _ (λ c. refl) }
 
-  pair_reads : Reads (field_ok d) pair_r pair_child
+  pair_reads : Reads (field_ok d) pair_r Kind.Pair
   unfolding kind_at field_ok pair_r
   pair_reads = record { takes = tagged_reads d 49 _ (λ c. refl) }
 
   -- a pair, which may be a total
-  aggregate_reads : Reads (field_ok d) aggregate_r aggregate_child
+  aggregate_reads : Reads (field_ok d) aggregate_r Kind.Aggregate
   unfolding kind_at field_ok pair_r tagged only aggregate_r among chosen some?
   aggregate_reads = record {
     takes = kind_reads d 49 49 54 54 aggregate_r
@@ -122,16 +123,16 @@ module _ (d : ℕ) where
         (λ t c o n m. rw (ne_eqb t 49 (outside_other 49 t o), ne_eqb t 54 n) refl);
   }
 
-  aggregates_reads : Reads (field_ok d) (pairs_r aggregate_r 50 aggregates_max) aggregates_child
+  aggregates_reads : Reads (field_ok d) (pairs_r aggregate_r 50 aggregates_max) Kind.Aggregates
   unfolding kind_at field_ok pairs_r
   aggregates_reads = record { takes = tagged_reads d 50 _ (λ c. refl) }
 
-  grouping_reads : Reads (field_ok d) (pairs_r pair_r 51 grouping_max) grouping_child
+  grouping_reads : Reads (field_ok d) (pairs_r pair_r 51 grouping_max) Kind.Grouping
   unfolding kind_at field_ok pairs_r
   grouping_reads = record { takes = tagged_reads d 51 _ (λ c. refl) }
 
   -- a path not empty
-  given_reads : Reads (field_ok d) path_r⁺ given_child
+  given_reads : Reads (field_ok d) path_r⁺ Kind.Given
   unfolding kind_at path_r⁺ child_ok allowed may_be
   given_reads = record {
     takes = λ f.
@@ -145,7 +146,7 @@ module _ (d : ℕ) where
       go false true x = refl
       go false false x = refl
 
-  stage_reads : Reads (field_ok d) stage_r stage_child
+  stage_reads : Reads (field_ok d) stage_r Kind.Stage
   unfolding kind_at field_ok stage_r among tags_within
   stage_reads = record {
     takes = range_reads d 17 21 stage_r (omega arith)
@@ -153,7 +154,7 @@ module _ (d : ℕ) where
         (λ t c o. chosen_outside 17 21 stage_table t c tt o);
   }
 
-  item_reads : Reads (field_ok d) item_r item_child
+  item_reads : Reads (field_ok d) item_r Kind.Item
   unfolding kind_at field_ok item_r among tags_within
   item_reads = record {
     takes = range_reads d 47 48 item_r (omega arith)
@@ -174,7 +175,7 @@ unfolding criterion_r among tags_within some?
 criterion_outside zero t c o = refl
 criterion_outside (suc d) t c o = chosen_outside 33 39 (criterion_table (criterion_r d)) t c tt o
 
-criterion_reads : (d : ℕ) → Reads (field_ok d) (criterion_r d) criterion_child
+criterion_reads : (d : ℕ) → Reads (field_ok d) (criterion_r d) Kind.Criterion
 unfolding kind_at criterion_ok
 criterion_reads d = record { takes = range_reads d 33 39 (criterion_r d) (omega arith) (criterion_field d) (criterion_outside d) }
 
@@ -183,7 +184,7 @@ unfolding data_r among tags_within some?
 data_outside zero t c o = refl
 data_outside (suc d) t c o = chosen_outside 40 45 (data_table (criterion_r d) (data_r d)) t c tt o
 
-data_reads : (d : ℕ) → Reads (field_ok d) (data_r d) data_child
+data_reads : (d : ℕ) → Reads (field_ok d) (data_r d) Kind.Data
 unfolding kind_at data_ok
 data_reads d = record { takes = range_reads d 40 45 (data_r d) (omega arith) (data_field d) (data_outside d) }
 
@@ -276,71 +277,6 @@ table_agrees t = go (ltb t 55) refl
     go : (b : Bool) → ltb t 55 ≡ b → Agrees t
     go true e = rw zero-add at (each_has Agrees 55 0 agreement t (leb-true (suc t) 55 e))
     go false e = above_agrees t (omega (arith, leb-false (suc t) 55 e))
-
--- ---- the code's table
--- a number that is none of the list, the last one first, as a match leaves it
-abbrev pub NoneOf : ℕ → List ℕ → Type 0
-NoneOf t [] = Unit {0}
-NoneOf t (k ∷ ks) = NoneOf t ks × (t ≡ k → ⊥)
-
-unfoldable has : ℕ → List ℕ → Bool
-has t [] = false
-has t (k ∷ ks) = eqb t k || has t ks
-
-has_none : (t : ℕ) (ks : List ℕ) → NoneOf t ks → has t ks ≡ false
-unfolding has
-has_none t [] n = refl
-has_none t (k ∷ ks) n = rw (ne_eqb t k n.1) (has_none t ks n.0)
-
--- f is x outside the list, by a look at each number below m
-module _ {A : Type 0} (f : ℕ → A) (x : A) (ks : List ℕ) where
-  abbrev Else : ℕ → Type 0
-  Else t = has t ks ≡ false → f t ≡ x
-
-  by_rows : (m : ℕ) → Each Else 0 m → ((t : ℕ) → m ≤ t → f t ≡ x) → (t : ℕ) → NoneOf t ks → f t ≡ x
-  by_rows m rows out t n = go (ltb t m) refl
-    where
-      go : (b : Bool) → ltb t m ≡ b → f t ≡ x
-      go true e = rw zero-add at (each_has Else m 0 rows t (leb-true (suc t) m e)) (has_none t ks n)
-      go false e = out t (omega (arith, leb-false (suc t) m e))
-
--- a row that the list has, and one that is x
-listed_row : {A : Type 0} {a b : A} → true ≡ false → a ≡ b
-listed_row e = let z : ◌≡◌ {A = ℕ} 0 1 = cc in absurd (omega arith)
-
-other_row : {A : Type 0} {a : A} → false ≡ false → a ≡ a
-other_row e = refl
-
--- each row of the code's table is the rule of its tag
-abbrev Row : ℕ → Type 0
-Row t = rule (get_or rule_bytes (t * 5) 0) (get_or rule_bytes (t * 5 + 1) 0) (get_or rule_bytes (t * 5 + 2) 0) (get_or rule_bytes (t * 5 + 3) 0) (get_or rule_bytes (t * 5 + 4) 0) ≡ rule_at t
-
-table_rows : Each Row 0 55
-unfolding rule_at
-table_rows =
-    refl also refl also refl also refl also refl also refl also refl also refl also refl also refl also refl also refl also refl
-    also refl also refl also refl also refl also refl also refl also refl also refl also refl also refl also refl also refl also refl
-    also refl also refl also refl also refl also refl also refl also refl also refl also refl also refl also refl also refl also refl
-    also refl also refl also refl also refl also refl also refl also refl also refl also refl also refl also refl also refl also refl
-    also refl also refl also refl also tt
-
-pub rule_row : (t : ℕ) → t < 55 → Row t
-rule_row t l = rw zero-add at (each_has Row 55 0 table_rows t l)
-
-pub rule_out : (t : ℕ) → 55 ≤ t → rule_at t ≡ never
-unfolding rule_at
-rule_out t l = get_or-eq_default rules never {n = t} l
-
-abbrev pub child_kinds : List ℕ
-child_kinds = 13 ∷ 12 ∷ 11 ∷ 10 ∷ 9 ∷ 8 ∷ 7 ∷ 6 ∷ 5 ∷ 4 ∷ 3 ∷ 2 ∷ 1 ∷ []
-
-pub kind_else : (k : ℕ) → NoneOf k child_kinds → kind_at k ≡ no_tags
-unfolding kind_at has
-kind_else =
-    by_rows kind_at no_tags child_kinds 14
-    (other_row also listed_row also listed_row also listed_row also listed_row also listed_row also listed_row
-    also listed_row also listed_row also listed_row also listed_row also listed_row also listed_row also listed_row also tt)
-    (λ k l. get_or-eq_default kinds no_tags {n = k} l)
 
 -- ---- the same by the parts of the code
 -- where no level is left

@@ -1,6 +1,7 @@
 //! Stages: where those of a query stand, which one stands at a place, and where its parts stand.
 //! Where a stage ends and the next begins, `areas::area::field_end` says, as for items, pairs and members.
-ghost use Rattle.queries.specs.Places.{TagNot, HoldsAt, stage_bytes, ReadsStage, ReadsQuery};
+ghost use Rattle.std.specs.Prelude.{◌≡◌};
+ghost use Rattle.queries.specs.Places.{TagNot, HoldsAt, group_of, stage_bytes, ReadsStage, ReadsQuery};
 
 use areas::area::field_end;
 use areas::span::Span;
@@ -28,6 +29,21 @@ pub enum StageAt {
     Project(Span),
     Group(GroupAt),
     Lookup(LookupAt),
+}
+
+impl StageAt {
+    /// Where the pairs of the group stand, if the stage is one.
+    pub fn group(self) -> Option<GroupAt>
+        ensures { result ≡ group_of self }
+    {
+        match self {
+            StageAt::Match(_) => None,
+            StageAt::Unwind(_) => None,
+            StageAt::Project(_) => None,
+            StageAt::Group(group) => Some(group),
+            StageAt::Lookup(_) => None,
+        }
+    }
 }
 
 /// Where the stages of a query stand, one behind another.

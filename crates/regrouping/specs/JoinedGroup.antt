@@ -9,9 +9,8 @@ use Rattle.spec_queries.specs.Again.{regroups, regrouped}
 use Rattle.spec_stages.specs.Stages.{going, stages}
 use Rattle.spec_stages.specs.Positions.{numbered, carried}
 use Rattle.queries.specs.declared.stage.GroupAt.{GroupAt}
-use Rattle.stretches.specs.declared.ended.Ended.{Ended}
+use Rattle.stretches.specs.Ended.{Ended, EndedIs}
 use Rattle.queries.specs.Places.{Pairs}
-use Rattle.stretches.specs.Ended.{EndedIs}
 
 -- the pairs of a tray group stand in q, and a and b are the byte forms of arrays within the limits
 pub record RegroupReady (q : List ℕ) (at : GroupAt) (a b w : List ℕ) : Type 0 where

@@ -1,5 +1,5 @@
 -- The join of two arrays, grouped again, comes to what the regrouping gives of the joined trees.
-use Rattle.std.specs.Prelude.{◌≡◌, ℕ, ◌+◌, ◌-◌, ◌≤◌, drop}
+use Rattle.std.specs.Prelude.{◌≡◌, ℕ, ◌+◌, ◌-◌, ◌≤◌, drop, Ok, Err}
 use Rattle.std.proofs.Common.{sym, ap, ap₂, ◌∙◌, arith, take_all}
 use Rattle.std.proofs.Math.Path.{subst}
 use mathlib.Core.List.{List, [], ◌∷◌, ◌++◌, map}
@@ -17,10 +17,8 @@ use Rattle.spec_queries.specs.AgainLaws.{regroups_parts}
 use Rattle.spec_stages.specs.Stages.{going, stages}
 use Rattle.spec_stages.proofs.LeaveLaws.{group_step, group_overflow, group_long}
 use Rattle.spec_stages.specs.Stretch.{before}
-use Rattle.areas.specs.Area.{Is, Wrote, span}
+use Rattle.areas.specs.Area.{Is, Wrote, span, Out, too_large}
 use Rattle.areas.specs.AreaLaws.{written, is_keep}
-use Rattle.areas.specs.declared.area.Out.{Out}
-use Rattle.areas.specs.declared.area.Out.TheVariants.{At, TooLarge}
 use Rattle.queries.specs.Places.{array_trees, Pairs}
 use Rattle.queries.specs.TreesLaws.{array_reads}
 use Rattle.queries.specs.declared.stage.GroupAt.{GroupAt}
@@ -34,17 +32,17 @@ use Rattle.positions.specs.BearingLaws.{few_trees}
 use Rattle.stream.specs.Feed.{Planned}
 use Rattle.stream.specs.declared.collector.Collector.{Collector}
 use Rattle.stream.specs.declared.collector.Collector.TheVariants.{Len}
-use Rattle.stretches.specs.declared.ended.Ended.{Ended}
-use Rattle.stretches.specs.declared.later.Grouped.{Grouped}
+use Rattle.stretches.specs.declared.ended.Failure.{Failure}
+use Rattle.stretches.specs.Ended.{Ended, EndedIs}
+use Rattle.stretches.specs.Later.{Grouped, LastPost, HeldReady, GroupedIs, HeldPost}
 use Rattle.stretch.specs.declared.next.StretchAt.{StretchAt}
 use Rattle.stretch.specs.Carry.{Positions, Holds}
-use Rattle.stretches.specs.Ended.{EndedIs}
 use Rattle.stretch.specs.Next.{stretch_at}
 use Rattle.group_stretch.specs.Group.{through}
-use Rattle.stretches.specs.Later.{LastPost, HeldReady, GroupedIs, HeldPost}
 use Rattle.stretches.specs.LaterLaws.{size_is, ends_long, ends_overflow}
 use Rattle.trays.specs.Again.{GroupRoom, GroupWritten}
 use Rattle.regrouping.specs.JoinedGroup.{RegroupReady, Regroups}
+use Rattle.stretches.specs.declared.ended.Failure.TheVariants as failure
 
 -- a group behind which no stage stands
 abbrev pub nowhere : GroupAt → StretchAt
@@ -63,12 +61,12 @@ module _ {a b w x : List ℕ} {d : ℕ} {r : Out} (k : Wrote w x d (d + trees_ma
   joined ts us ea eb = subst (λ l. Wrote w x d (d + trees_max) l r) (ap₂ ◌++◌ (trees_of_lem a ts ea) (trees_of_lem b us eb) ∙ sym (trees_append ts us)) k
 
   -- more than an array may have
-  pub joined_long : {q : List ℕ} {at : GroupAt} → r ≡ TooLarge → Regroups q at a b x Ended.Long
+  pub joined_long : {q : List ℕ} {at : GroupAt} → r ≡ Err too_large → Regroups q at a b x (Err failure.Long)
   unfolding stages
   joined_long z ag gs ts us p _ ea oa eb ob =
       ends_long x _ (group_long [] (map again ag) (map again gs) (ts ++ us) (omega (arith, ((joined ts us ea eb).large z).over, size_is (ts ++ us))))
 
-  module _ {e : ℕ} (z : r ≡ At e) {q : List ℕ} {at : GroupAt} (h : RegroupReady q at a b w) (y : d ≡ collected_at) (l : length x ≡ length w) where
+  module _ {e : ℕ} (z : r ≡ Ok e) {q : List ℕ} {at : GroupAt} (h : RegroupReady q at a b w) (y : d ≡ collected_at) (l : length x ≡ length w) where
     -- the joined trees stand where collected ones do
     stand : (ts us : List Tree) → a ≡ array_bytes ts → b ≡ array_bytes us → Is x collected_at (collected_at + (e - d)) (array_trees (ts ++ us))
     stand ts us ea eb =
@@ -176,13 +174,14 @@ module _ {a b w x : List ℕ} {d : ℕ} {r : Out} (k : Wrote w x d (d + trees_ma
           short_trees ts us ea eb =
               omega (arith, size_is (unmarked (numbered 1 (ts ++ us))), ap (λ t. length (array_trees t)) (numbered_trees 1 (ts ++ us)), joined_short ts us ea eb)
 
-          pub again_overflow : c ≡ Grouped.Overflow → Regroups q at a b v Ended.Overflow
+          pub again_overflow : {failed : Failure} → c ≡ Err failed → Regroups q at a b v (Err failed)
           unfolding stages
-          again_overflow z ag gs ts us p _ ea oa eb ob =
-              ends_overflow v _ (same_trees ag gs ts us
-              ∙ group_overflow [] (map again ag) (map again gs) (unmarked (numbered 1 (ts ++ us))) (short_trees ts us ea eb) ((came ag gs ts us p ea oa eb ob).overflow z))
+          again_overflow {failed} z ag gs ts us p _ ea oa eb ob =
+              let o = (came ag gs ts us p ea oa eb ob).overflow failed z in
+              rw o.0 (ends_overflow v _ (same_trees ag gs ts us
+              ∙ group_overflow [] (map again ag) (map again gs) (unmarked (numbered 1 (ts ++ us))) (short_trees ts us ea eb) o.1))
 
-          pub again_ended : {l : Collector} → c ≡ Grouped.Collected l → {o : Ended} → LastPost l o → Regroups q at a b v o
+          pub again_ended : {l : Collector} → c ≡ Ok l → {o : Ended} → LastPost l o → Regroups q at a b v o
           unfolding stages carried through before
           again_ended {l} z {o} last ag gs ts us p _ ea oa eb ob =
               let bs = numbered 1 (ts ++ us) in

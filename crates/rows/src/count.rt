@@ -1,34 +1,18 @@
 //! The rows of the text, one after the other.
-ghost use Rattle.std.specs.Prelude.{◌≤◌, IfOk};
-
 use crate::row::{row_name, row_verdict};
-use cases::report::{say_total, say_verdict};
-use cases::trial::Verdict;
-use row_text::lines::{Kind, find_line, next_line};
-use row_text::parts::part;
+use cases::report::say_total;
+use cases::verdict::{Difference, Verdict};
+use row_text::lines::{from_line, is_telling, split_before};
 use std::io;
 use std::io::Write;
 
 /// The line of a row.
 fn say_row<W: Write>(out: &mut W, row: &[u8], number: u64, verdict: Verdict) -> io::Result<()> {
     out.write_all(row_name(row))?;
-    out.write_all(b": ")?;
-    say_verdict(out, verdict)?;
-    if let Verdict::Malformed = verdict {
-        write!(out, " row {number}")?;
-    }
-    out.write_all(b"\n")
-}
-
-/// 1 for a row that agrees, else 0. Each is reported.
-fn counted<W: Write>(out: &mut W, row: &[u8], number: u64, verdict: Verdict) -> io::Result<u64>
-    ensures { IfOk result (λ n. n ≤ 1) }
-{
-    say_row(out, row, number, verdict)?;
-    if let Verdict::Agrees = verdict {
-        Ok(1)
-    } else {
-        Ok(0)
+    match verdict {
+        Ok(()) => writeln!(out, ": agrees"),
+        Err(difference @ Difference::Malformed) => writeln!(out, ": {difference} row {number}"),
+        Err(difference) => writeln!(out, ": {difference}"),
     }
 }
 
@@ -37,14 +21,14 @@ fn counted<W: Write>(out: &mut W, row: &[u8], number: u64, verdict: Verdict) -> 
 pub fn count<W: Write>(out: &mut W, text: &[u8]) -> io::Result<()> {
     let mut rows = 0u64;
     let mut agree = 0u64;
-    let mut at = find_line(text, 0, Kind::Telling);
-    while at < text.len() {
-        let end = find_line(text, next_line(text, at), Kind::Row);
-        let row = part(text, at, end);
+    let mut rest = from_line(text, is_telling);
+    while !rest.is_empty() {
+        let (row, behind) = split_before(rest, |line| line.starts_with(b"row "));
         let verdict = row_verdict(row);
         rows += 1;
-        agree += counted(out, row, rows, verdict)?;
-        at = end;
+        agree += u64::from(verdict.is_ok());
+        say_row(out, row, rows, verdict)?;
+        rest = behind;
     }
-    say_total(out, rows, b"rows", agree)
+    say_total(out, rows, "rows", agree)
 }

@@ -1,10 +1,12 @@
 //! A row: its name, its call with the arguments, and what is expected.
 use cases::comparing::compare_copy;
-use cases::position_area::least_entries;
-use cases::trial::{Call, Case, Check, Verdict, compare, compare_check, compare_message};
-use row_text::lines::{begins, line_end, next_line};
-use row_text::parts::{front, part};
-use row_text::place::{Place, argument, is_read, line_feed, number, word};
+use cases::trial::{
+    Case, Expected, Stated, compare_array_check, compare_query_check, compare_regroup, compare_run,
+    compare_trace,
+};
+use cases::verdict::{Difference, Verdict};
+use row_text::lines::split_line;
+use row_text::row::Row;
 
 /// Room for the bytes of a row: those of the longest, with as many trees in the input and the result as an array holds
 /// and a position for each, are 38,232.
@@ -12,168 +14,162 @@ const BYTES: usize = 40960;
 
 /// The name of a row: the rest of its first line, or all of it where it is no row.
 pub fn row_name(row: &[u8]) -> &[u8] {
-    let end = line_end(row, 0);
-    if begins(row, b"row ") {
-        return part(row, 4, end);
-    }
-    front(row, end)
+    let (line, _) = split_line(row);
+    line.strip_prefix(b"row ").unwrap_or(line)
 }
 
 /// The number that is expected.
-fn expected_number(row: &[u8], place: Place) -> Place {
-    line_feed(row, number(row, word(row, place, b"number")))
+fn expected_number(row: &mut Row) -> Option<u64> {
+    row.word(b"number")?;
+    let number = row.number()?;
+    row.line_feed()?;
+    Some(number as u64)
 }
 
-/// The result that is expected, if the number that was read last is 0.
-fn expected_result(row: &[u8], place: Place, bytes: &mut [u8]) -> Place {
-    if place.value == 0 {
-        return argument(row, place, b"result ", bytes);
-    }
-    place
-}
-
-/// The positions that are expected, if they are stated and the number that was read last is 0.
-fn expected_positions(row: &[u8], place: Place, stated: bool, bytes: &mut [u8]) -> Place {
-    if stated && place.value == 0 {
-        return argument(row, place, b"positions ", bytes);
-    }
-    place
-}
-
-/// Whether a row states how many entries the position area has, and with it the positions that are expected.
-fn states_entries(row: &[u8], place: Place, call: Call) -> bool {
-    match call {
-        Call::Run => number(row, place).sound,
-        Call::Regroup => false,
+/// An argument that a row has only if the number that is expected is 0: else it is no bytes.
+fn argument_if_accepted<'b>(
+    row: &mut Row,
+    number: u64,
+    wanted: &[u8],
+    bytes: &'b mut [u8],
+) -> Option<(&'b [u8], &'b mut [u8])> {
+    if number == 0 {
+        row.argument(wanted, bytes)
+    } else {
+        Some((&[], bytes))
     }
 }
 
-/// How many entries the position area has: as many as the row states, or as a run needs.
-fn entries(row: &[u8], place: Place, stated: bool) -> Place {
-    if stated {
-        return number(row, place);
-    }
-    Place {
-        at: place.at,
-        end: place.end,
-        value: least_entries(),
-        sound: place.sound,
-    }
+/// What is expected of a call whose result area has `room` bytes, with what is left of the buffer.
+fn read_expected<'b>(
+    row: &mut Row,
+    room: usize,
+    bytes: &'b mut [u8],
+) -> Option<(Expected<'b>, &'b mut [u8])> {
+    let number = expected_number(row)?;
+    let (result, free) = argument_if_accepted(row, number, b"result ", bytes)?;
+    let expected = Expected {
+        number,
+        result,
+        room,
+    };
+    Some((expected, free))
 }
 
 /// The verdict of a row whose call only checks.
-fn check_row(row: &[u8], place: Place, check: Check) -> Verdict {
+fn check_row<F: FnOnce(&[u8], u64) -> Verdict>(mut row: Row, compare: F) -> Option<Verdict>
+    requires { F.IsAlwaysCallable compare }
+{
     let mut bytes = [0u8; BYTES];
-    let b = argument(row, line_feed(row, place), b"bytes ", &mut bytes);
-    let n = expected_number(row, b);
-    if !is_read(row, n) {
-        return Verdict::Malformed;
-    }
-    compare_check(check, front(&bytes, n.end), n.value as u64)
+    row.line_feed()?;
+    let (checked, _) = row.argument(b"bytes ", &mut bytes)?;
+    let number = expected_number(&mut row)?;
+    row.end()?;
+    Some(compare(checked, number))
 }
 
-/// The verdict of a row that compares bytes with their copy, for which they are read twice.
-fn compare_row(row: &[u8], place: Place) -> Verdict {
+/// The verdict of a row that compares bytes with their copy.
+fn compare_row(mut row: Row) -> Option<Verdict> {
     let mut bytes = [0u8; BYTES];
     let mut copy = [0u8; BYTES];
-    let start = line_feed(row, place);
-    let b = argument(row, start, b"bytes ", &mut bytes);
-    let c = argument(row, start, b"bytes ", &mut copy);
-    let n = line_feed(row, number(row, word(row, b, b"steps")));
-    if !is_read(row, n) || b.end != c.end {
-        return Verdict::Malformed;
-    }
-    compare_copy(front(&bytes, n.end), &mut copy, n.value)
+    row.line_feed()?;
+    let (stretch, _) = row.argument(b"bytes ", &mut bytes)?;
+    row.word(b"steps")?;
+    let steps = row.number()?;
+    row.line_feed()?;
+    row.end()?;
+    let copy = copy.get_mut(..stretch.len())?;
+    copy.copy_from_slice(stretch);
+    Some(compare_copy(stretch, copy, steps))
 }
 
 /// The verdict of a row whose call traces a message.
-fn tracer_row(row: &[u8], place: Place) -> Verdict {
+fn tracer_row(mut row: Row) -> Option<Verdict> {
     let mut bytes = [0u8; BYTES];
-    let r = number(row, place);
-    let m = argument(row, line_feed(row, r), b"message ", &mut bytes);
-    let n = expected_number(row, m);
-    let e = expected_result(row, n, &mut bytes);
-    if !is_read(row, e) {
-        return Verdict::Malformed;
-    }
-    compare_message(&bytes, m.end, e.end, r.value, n.value as u64)
+    let room = row.number()?;
+    row.line_feed()?;
+    let (message, free) = row.argument(b"message ", &mut bytes)?;
+    let (expected, _) = read_expected(&mut row, room, free)?;
+    row.end()?;
+    Some(compare_trace(message, expected))
 }
 
-/// The first array of a call.
-fn first_array(row: &[u8], place: Place, call: Call, bytes: &mut [u8]) -> Place {
-    match call {
-        Call::Run => argument(row, place, b"input ", bytes),
-        Call::Regroup => argument(row, place, b"first ", bytes),
-    }
-}
-
-/// The second array of a call.
-fn second_array(row: &[u8], place: Place, call: Call, bytes: &mut [u8]) -> Place {
-    match call {
-        Call::Run => argument(row, place, b"joined ", bytes),
-        Call::Regroup => argument(row, place, b"second ", bytes),
-    }
-}
-
-/// The verdict of a row whose call answers with a result.
-fn result_row(row: &[u8], place: Place, call: Call) -> Verdict {
-    let mut bytes = [0u8; BYTES];
-    let w = number(row, place);
-    let r = number(row, w);
-    let stated = states_entries(row, r, call);
-    let k = entries(row, r, stated);
-    let q = argument(row, line_feed(row, k), b"query ", &mut bytes);
-    let f = first_array(row, q, call, &mut bytes);
-    let s = second_array(row, f, call, &mut bytes);
-    let n = expected_number(row, s);
-    let e = expected_result(row, n, &mut bytes);
-    let p = expected_positions(row, e, stated, &mut bytes);
-    if !is_read(row, p) {
-        return Verdict::Malformed;
-    }
-    let c = Case {
-        call,
-        query_end: q.end,
-        first_end: f.end,
-        second_end: s.end,
-        result_end: e.end,
-        positions_end: p.end,
-        work: w.value,
-        room: r.value,
-        entries: k.value,
-        stated,
-        number: n.value as u64,
+/// The query of a call, its two arrays, each behind its name, and what is expected; with what is left of the buffer.
+fn read_case<'b>(
+    row: &mut Row,
+    work: usize,
+    room: usize,
+    names: (&[u8], &[u8]),
+    bytes: &'b mut [u8],
+) -> Option<(Case<'b>, &'b mut [u8])> {
+    row.line_feed()?;
+    let (query, free) = row.argument(b"query ", bytes)?;
+    let (first, free) = row.argument(names.0, free)?;
+    let (second, free) = row.argument(names.1, free)?;
+    let (expected, free) = read_expected(row, room, free)?;
+    let case = Case {
+        query,
+        first,
+        second,
+        work,
+        expected,
     };
-    compare(&bytes, c)
+    Some((case, free))
+}
+
+/// The verdict of a row whose call regroups.
+fn regroup_row(mut row: Row) -> Option<Verdict> {
+    let mut bytes = [0u8; BYTES];
+    let work = row.number()?;
+    let room = row.number()?;
+    let (case, _) = read_case(&mut row, work, room, (b"first ", b"second "), &mut bytes)?;
+    row.end()?;
+    Some(compare_regroup(case))
+}
+
+/// The verdict of a row whose call runs a query. It states the positions that are expected if it states how many
+/// entries the position area has.
+fn run_row(mut row: Row) -> Option<Verdict> {
+    let mut bytes = [0u8; BYTES];
+    let work = row.number()?;
+    let room = row.number()?;
+    let entries = row.number();
+    let (case, free) = read_case(&mut row, work, room, (b"input ", b"joined "), &mut bytes)?;
+    let number = case.expected.number;
+    let stated = match entries {
+        Some(entries) => {
+            let (positions, _) = argument_if_accepted(&mut row, number, b"positions ", free)?;
+            Some(Stated { entries, positions })
+        }
+        None => None,
+    };
+    row.end()?;
+    Some(compare_run(case, stated))
+}
+
+/// The verdict of a row that can be read.
+fn read_verdict(text: &[u8]) -> Option<Verdict> {
+    let mut row = Row::new(text)?;
+    if row.word(b"check-array").is_some() {
+        return check_row(row, compare_array_check);
+    }
+    if row.word(b"check-query").is_some() {
+        return check_row(row, compare_query_check);
+    }
+    if row.word(b"compare").is_some() {
+        return compare_row(row);
+    }
+    if row.word(b"tracer").is_some() {
+        return tracer_row(row);
+    }
+    if row.word(b"regroup").is_some() {
+        return regroup_row(row);
+    }
+    row.word(b"run")?;
+    run_row(row)
 }
 
 /// The verdict of a row.
-pub fn row_verdict(row: &[u8]) -> Verdict {
-    let place = Place {
-        at: next_line(row, 0),
-        end: 0,
-        value: 0,
-        sound: begins(row, b"row "),
-    };
-    let a = word(row, place, b"check-array");
-    if a.sound {
-        return check_row(row, a, Check::Array);
-    }
-    let q = word(row, place, b"check-query");
-    if q.sound {
-        return check_row(row, q, Check::Query);
-    }
-    let c = word(row, place, b"compare");
-    if c.sound {
-        return compare_row(row, c);
-    }
-    let t = word(row, place, b"tracer");
-    if t.sound {
-        return tracer_row(row, t);
-    }
-    let g = word(row, place, b"regroup");
-    if g.sound {
-        return result_row(row, g, Call::Regroup);
-    }
-    result_row(row, word(row, place, b"run"), Call::Run)
+pub fn row_verdict(text: &[u8]) -> Verdict {
+    read_verdict(text).unwrap_or(Err(Difference::Malformed))
 }

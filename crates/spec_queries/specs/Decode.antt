@@ -1,5 +1,5 @@
--- Bytes read as queries. By tag, what may stand inside and how many: `criterionTable`, `dataTable`, `itemTable`,
--- `aggregateTable`, `stageTable`.
+-- Bytes read as queries. By tag, what may stand inside and how many: `criterion_table`, `data_table`, `item_table`,
+-- `aggregate_table`, `stage_table`.
 use Rattle.std.specs.Prelude.{List, [], ◌∷◌, ℕ, zero, suc, length, eqb, leb}
 use Rattle.std.proofs.Math.Option.{Option, none, some}
 use Rattle.spec_trees.specs.Options.{only}

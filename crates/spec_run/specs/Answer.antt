@@ -1,20 +1,23 @@
 -- The one predicate of the certificate, of each call.
-use Rattle.std.specs.Prelude.{◌≡◌, List, ℕ}
-use Rattle.spec_run.specs.declared.answer.Answer.{Answer}
-use Rattle.spec_run.specs.declared.answer.Answer.TheVariants.{Accepted, Refused}
+use Rattle.std.specs.Prelude.{◌≡◌, List, ℕ, Result, Ok, Err}
 use Rattle.spec_run.specs.Refusal.{number_of}
 use Rattle.spec_run.specs.Run.{Call, Verdict, number_in, length_in, result_after, plain_run, plain_positions}
 use Rattle.spec_run.specs.Regroup.{RegroupCall, plain_regroup}
 use Rattle.spec_run.specs.Tracer.{plain_tracer}
+use Rattle.spec_run.specs.declared.answer.Refusal.{Refusal}
+
+-- how many bytes the result has, or why there is none
+abbrev pub Answer : Type 0
+Answer = Result ℕ Refusal
 
 -- an answer's number and length
 abbrev pub numbered : Answer → ℕ
-numbered (Accepted n) = 0
-numbered (Refused r) = number_of r
+numbered (Ok n) = 0
+numbered (Err r) = number_of r
 
 abbrev pub lengthened : Answer → ℕ
-lengthened (Accepted n) = n
-lengthened (Refused r) = 0
+lengthened (Ok n) = n
+lengthened (Err r) = 0
 
 -- The call c is answered by this number and this length, with the result, the work and the position area left so: all
 -- five are the plain run's of this call

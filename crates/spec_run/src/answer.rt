@@ -1,7 +1,7 @@
 //! What a run answers: the length of its result, or why it is refused. The definitions and the code name the same.
 
 /// The refusals, in the order in which they are tested.
-#[derive(Clone, Copy)]
+#[derive(Clone, Copy, Debug, PartialEq, Eq)]
 pub enum Refusal {
     /// The work area has under 65,536 bytes.
     WorkShort,
@@ -31,8 +31,4 @@ pub enum Refusal {
 }
 
 /// The result has so many bytes; or there is none.
-#[derive(Clone, Copy)]
-pub enum Answer {
-    Accepted(usize),
-    Refused(Refusal),
-}
+pub type Answer = Result<usize, Refusal>;

@@ -77,7 +77,7 @@ carried joined (s ∷ ss) bs = carried joined ss (carry joined s bs)
 unfoldable pub result_positions : List Tree → List Stage → List Tree → List ℕ
 result_positions joined ss ts = positions (carried joined ss (numbered 1 ts))
 
--- ---- a class's position found by search, as the streamed run finds it: equal by `carry-group`
+-- ---- a class's position found by search, as the streamed run finds it: equal by `carry_group`
 -- the position of the first tree that has the key of t
 unfoldable pub origin : List Pair → Tree → List Borne → ℕ
 origin gs t [] = 0

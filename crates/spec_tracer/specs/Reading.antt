@@ -1,5 +1,5 @@
 -- A message read from its first byte to its last. Nothing here need be believed: that a message is read as the lines whose
--- bytes it is, and as no others, is `message-form` of MessageLaws.
+-- bytes it is, and as no others, is `message_form` of MessageLaws.
 use Rattle.std.specs.Prelude.{List, [], ◌∷◌, Bool, cond, ℕ, zero, suc, length, eqb}
 use Rattle.std.proofs.Math.Option.{Option, none, some, map}
 use Rattle.spec_trees.specs.Options.{◌>>=◌, only}

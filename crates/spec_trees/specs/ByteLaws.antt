@@ -1,5 +1,5 @@
 -- The byte form of what the format allows holds bytes only: so an area can hold it.
-use Rattle.std.specs.Prelude.{List, [], ◌∷◌, ◌++◌, true, false, ℕ, zero, suc, ◌/◌, ◌≤◌, ◌<◌, length, T, leb}
+use Rattle.std.specs.Prelude.{List, [], ◌∷◌, ◌++◌, true, false, ℕ, zero, suc, ◌/◌, ◌≤◌, ◌<◌, length, get_or, T, leb}
 use Rattle.std.proofs.Common.{arith, length-append, leb→le}
 use Rattle.spec_trees.specs.Lists.{All}
 use Rattle.spec_trees.specs.Limits.{label_max}
@@ -7,7 +7,7 @@ use Rattle.spec_trees.specs.Tree.{Root, void, boolean, integer, text, Tree, node
 use Rattle.spec_trees.specs.Bytes.{Field, two_limit, field_bytes, bytes, low, big, pattern, root_f, label_tag, label_heads, label_of, label_f, tree_f, tree_fs, label_fs, array_f, array_bytes}
 use Rattle.spec_trees.specs.Within.{AllBytes, OkR, Ok, OkA, OkL, AllowedA, Within}
 use Rattle.spec_trees.specs.OptionLaws.{T_and}
-use Rattle.spec_trees.specs.ListLaws.{All-append, All-reverse}
+use Rattle.spec_trees.specs.ListLaws.{All-append, All-reverse, All-of}
 use Rattle.spec_trees.specs.SizeLaws.{length_array}
 
 -- bytes only, if there are no more of them than two length bytes can say
@@ -16,6 +16,10 @@ InBytes xs = length xs < two_limit → AllBytes xs
 
 abbrev pub FieldInBytes : Field → Type 0
 FieldInBytes f = InBytes (field_bytes f)
+
+-- byte by byte, as of a slice
+pub bytes_are : (xs : List ℕ) → ((k : ℕ) → get_or xs k 0 < 256) → AllBytes xs
+bytes_are xs h = All-of (λ x. x < 256) 0 xs (λ k l. h k)
 
 -- ---- fields
 pub bytes_append_in : (xs ys : List ℕ) → InBytes xs → InBytes ys → InBytes (xs ++ ys)

@@ -57,7 +57,7 @@ unfoldable pub tree_r : ℕ → Reader Tree
 tree_r zero f = none
 tree_r (suc d) f = tagged 2 (λ b. only (leb (3 + length b) tree_max) (inside (tree_c (tree_r d)) b)) f
 
--- An array inside a tree or a query is shorter than `arrayMax` by the limit of what holds it.
+-- An array inside a tree or a query is shorter than `array_max` by the limit of what holds it.
 unfoldable pub array_r : Reader (List Tree)
 array_r = array_with (tree_r depth_max)
 

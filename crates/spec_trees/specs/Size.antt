@@ -18,7 +18,7 @@ unfoldable mutual
   depth_l bare = 0
   depth_l (label k a ls) = max (depth_a a) (depth_l ls)
 
--- ---- sizes: the lengths of the byte forms, as `length-tree` and `length-array` of SizeLaws say
+-- ---- sizes: the lengths of the byte forms, as `length_tree` and `length_array` of SizeLaws say
 unfoldable pub root_size : Root → ℕ
 root_size void = 3
 root_size (boolean b) = 4

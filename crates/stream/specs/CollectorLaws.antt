@@ -1,15 +1,13 @@
 -- The algebra of feeding: one tree after another, a stop, nothing, and through a lent tail.
-use Rattle.std.specs.Prelude.{◌≡◌, refl, true, false, ℕ, suc, ◌+◌, ◌-◌, ◌≤◌, replicate}
+use Rattle.std.specs.Prelude.{◌≡◌, refl, true, false, ℕ, suc, ◌+◌, ◌-◌, ◌≤◌, replicate, Ok, Err}
 use Rattle.std.proofs.Common.{sym, ◌∙◌, subst, arith, length-drop, take-add, drop_at}
 use Rattle.std.proofs.Math.Path.{ap}
 use mathlib.Core.List.{List, [], ◌++◌, append_assoc, append-nil}
 use Rattle.std.proofs.Math.ListN.{length, take, drop, length-append}
 use Rattle.std.proofs.lemmas.List.{length-replicate}
 use Rattle.std.proofs.Math.Seq.{drop-append-le, length-take-le}
-use Rattle.areas.specs.declared.area.Out.{Out}
-use Rattle.areas.specs.declared.area.Out.TheVariants.{At, TooLarge}
 use Rattle.spec_trees.specs.Tree.{Tree}
-use Rattle.areas.specs.Area.{Wrote}
+use Rattle.areas.specs.Area.{Wrote, Out, too_large}
 use Rattle.areas.specs.AreaLaws.{is_copied}
 use Rattle.spec_trees.specs.Bytes.{bytes, tree_fs}
 use Rattle.spec_queries.specs.Query.{Stage}
@@ -130,14 +128,14 @@ front w a m b = sym (ap (drop a) (take-add a m w) ∙ drop_at (take a w) (take m
 
 module _ {t v : List ℕ} {te n : ℕ} {o : Out} (h : CollectReady t te (Len n)) (l : length v ≡ length t)
     (k : Wrote t v (base t + n) (base t + trees_max) (take (te - 0) (drop 0 t)) o) where
-  pub appended_end : {e : ℕ} → o ≡ At e → base t ≤ e
+  pub appended_end : {e : ℕ} → o ≡ Ok e → base t ≤ e
   appended_end {e} z = omega (arith, (k.fits e z).ends)
 
   -- so two bytes hold the number
-  pub appended_short : {e : ℕ} → o ≡ At e → e - base t ≤ trees_max
+  pub appended_short : {e : ℕ} → o ≡ Ok e → e - base t ≤ trees_max
   appended_short {e} z = omega (arith, (k.fits e z).room)
 
-  pub appended : {e : ℕ} → o ≡ At e → Collected t v te (Len n) (Len (e - base t))
+  pub appended : {e : ℕ} → o ≡ Ok e → Collected t v te (Len n) (Len (e - base t))
   unfolding Collects
   appended {e} z = record {
     taken = λ b xs f c.
@@ -153,7 +151,7 @@ module _ {t v : List ℕ} {te n : ℕ} {o : Out} (h : CollectReady t te (Len n))
         );
   }
 
-  pub overflowed : o ≡ TooLarge → Collected t v te (Len n) Over
+  pub overflowed : o ≡ Err too_large → Collected t v te (Len n) Over
   unfolding Collects
   overflowed z = record { taken = λ b xs f c. let w = (is_copied {xs = b} f k).large z in omega (arith, w.over, c.0, length-append xs b) }
 

@@ -1,16 +1,14 @@
 -- Laws of feeding one tree: no stage is left, a group is next, or one stage and then the others.
-use Rattle.std.specs.Prelude.{◌≡◌, refl, List, [], ◌∷◌, ◌++◌, Bool, true, false, cond, ℕ, suc, ◌+◌, ◌-◌, ◌≤◌, length}
+use Rattle.std.specs.Prelude.{◌≡◌, refl, List, [], ◌∷◌, ◌++◌, Bool, true, false, cond, ℕ, suc, ◌+◌, ◌-◌, ◌≤◌, length, Ok, Err}
 use Rattle.std.proofs.Common.{sym, ◌∙◌, arith}
 use Rattle.std.proofs.Math.Path.{ap, subst}
-use Rattle.areas.specs.declared.area.Out.{Out}
-use Rattle.areas.specs.declared.area.Out.TheVariants.{At, TooLarge}
 use Rattle.spec_trees.specs.Lists.{All}
 use Rattle.spec_trees.specs.Limits.{tree_max, depth_max, nest_max}
 use Rattle.spec_trees.specs.Tree.{Tree}
 use Rattle.spec_trees.specs.Bytes.{tree_bytes}
 use Rattle.spec_trees.specs.SizeLaws.{length_tree}
 use Rattle.spec_trees.specs.Within.{Allowed, AllowedA}
-use Rattle.areas.specs.Area.{Is, field_end, IsAt, span}
+use Rattle.areas.specs.Area.{Is, field_end, IsAt, span, Out, too_large}
 use Rattle.areas.specs.declared.span.Span.{Span}
 use Rattle.format.specs.Stand.{Holds}
 use Rattle.spec_queries.specs.Query.{Path, Route, Criterion, Item, Stage, match, unwind, project, lookup}
@@ -21,7 +19,7 @@ use Rattle.queries.specs.PartLaws.{list_parts, list_none}
 use Rattle.queries.specs.declared.stage.GroupAt.{GroupAt}
 use Rattle.queries.specs.declared.stage.LookupAt.{LookupAt}
 use Rattle.queries.specs.declared.stage.StageAt.{StageAt}
-use Rattle.spec_stages.specs.Stages.{is_group, going, large, step, stages}
+use Rattle.spec_stages.specs.Stages.{is_group, going, step, stages}
 use Rattle.criteria.specs.Meets.{Evaluable, Meets}
 use Rattle.paths.specs.Walk.{given}
 use Rattle.paths.specs.ComparedLaws.{one_bytes}
@@ -32,7 +30,7 @@ use Rattle.stream.specs.declared.collector.Collector.TheVariants.{Large}
 use Rattle.spec_stages.specs.Stretch.{before}
 use Rattle.spec_stages.proofs.StretchLaws.{before_next, before_group, before_none, before_free}
 use Rattle.map.specs.Map.{rooms, building, tail_min, stage_min}
-use Rattle.stream.specs.Collector.{ends, Collects, Fed, Feeds, CollectReady, Collected}
+use Rattle.stream.specs.Collector.{Collects, Fed, Feeds, CollectReady, Collected}
 use Rattle.stream.specs.CollectorLaws.{feeds_none, feeds_large, feeds_lent, feeds_move}
 use Rattle.stream.specs.Tails.{tail, lent}
 use Rattle.stream.specs.TailLaws.{tail_length, tail_is, ends_beyond}
@@ -238,11 +236,11 @@ module _ {t : List ℕ} {te : ℕ} {q : List ℕ} {c : Span} {m e : ℕ} {j : Li
   }
 
   module _ {v : List ℕ} (l : length v ≡ length t) {o : Out} (k : Projects t v q c (span 0 te) tree_max o) where
-    pub project_large : o ≡ TooLarge → PartPost OkItems items_bytes project t v te q (part_at c (span m e)) j s Large
+    pub project_large : o ≡ Err too_large → PartPost OkItems items_bytes project t v te q (part_at c (span m e)) j s Large
     project_large z a ss us x ok i pl fr =
         subst (λ y. Feeds t s v Large (stages us (before ss) y)) (sym (project_none us a x ((k a x ok.0 i fr.allowed fr.tree_is).large z))) (feeds_large t v s us (before ss))
 
-    module _ {d : ℕ} (z : o ≡ At d) where
+    module _ {d : ℕ} (z : o ≡ Ok d) where
       made : (a : List Item) (us : List Tree) (x : Tree) → OkItems a → IsAt q c (items_bytes a) → AllowedA us → Front t te x
           → (y : Tree) × (step us (project a) (going (x ∷ [])) ≡ going (y ∷ [])) × Allowed depth_max y × Is v tree_max d (tree_bytes y)
       made a us x ok i au fr =
@@ -283,13 +281,13 @@ module _ {t : List ℕ} {te : ℕ} {q : List ℕ} {at : LookupAt} {m e : ℕ} {j
   }
 
   module _ {v : List ℕ} (l : length v ≡ length t) {o : Out} (k : Looks t v q at (span 0 te) j (span 3 (length j)) o) where
-    pub lookup_large : o ≡ TooLarge → JoinPost t v te q at (span m e) j s Large
+    pub lookup_large : o ≡ Err too_large → JoinPost t v te q at (span m e) j s Large
     lookup_large z own other target ss us x a ai b bi p pi pl fr =
         subst (λ y. Feeds t s v Large (stages us (before ss) y))
         (sym (lookup_none us own other target x ((k own other target x us a ai b bi p pi fr.allowed fr.tree_is pl.joined_ok pl.joined_is).large z)))
         (feeds_large t v s us (before ss))
 
-    module _ {n : ℕ} (z : o ≡ At n) where
+    module _ {n : ℕ} (z : o ≡ Ok n) where
       looked_at : (own other : Route) (target : Path) (ss : List Stage) (us : List Tree) (x : Tree) → OkRoute own → IsAt q at.own (route_bytes own) → OkRoute other → IsAt q at.theirs (route_bytes other) → OkP⁺ target → IsAt q at.target (path_bytes target)
           → Planned q (span m e) j ss us → Front t te x
           → (y : Tree) × (step us (lookup own other target) (going (x ∷ [])) ≡ going (y ∷ [])) × Front v n y

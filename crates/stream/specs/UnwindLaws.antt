@@ -1,25 +1,19 @@
 -- Laws of the loops over the outcomes of an unwind.
-use Rattle.std.specs.Prelude.{◌≡◌, refl, List, [], ◌∷◌, map, true, false, ℕ, ◌+◌, ◌-◌, ◌≤◌, ◌<◌, length, take, drop, get_or, leb}
-use Rattle.std.proofs.Common.{sym, ap, ◌∙◌, subst, arith, leb→le}
+use Rattle.std.specs.Prelude.{◌≡◌, refl, List, [], ◌∷◌, map, true, false, ℕ, ◌+◌, ◌-◌, ◌≤◌, ◌<◌, length, take, drop, get_or, Some, None, Ok, Err}
+use Rattle.std.proofs.Common.{sym, ap, ◌∙◌, subst, arith}
 use Rattle.std.proofs.Math.Option.{some}
-use Rattle.areas.specs.declared.area.Out.{Out}
-use Rattle.areas.specs.declared.area.Out.TheVariants.{At, TooLarge}
-use Rattle.format.specs.declared.labels.Found.{Found}
-use Rattle.format.specs.declared.labels.Found.TheVariants.{Part, Missing}
-use Rattle.spec_trees.specs.Lists.{all}
-use Rattle.spec_trees.specs.Limits.{tree_max, depth_max, path_max, label_max}
-use Rattle.spec_trees.specs.OptionLaws.{T_and}
+use Rattle.spec_trees.specs.Limits.{tree_max, depth_max, label_max}
 use Rattle.spec_trees.specs.ListLaws.{All-drop}
-use Rattle.spec_trees.specs.Tree.{Tree, Trees, ◌▹◌, list, labels, is_label, find}
+use Rattle.spec_trees.specs.Tree.{Tree, Trees, ◌▹◌, list, labels, find}
 use Rattle.spec_trees.specs.Bytes.{tree_bytes}
 use Rattle.spec_trees.specs.Within.{Allowed, AllowedA}
-use Rattle.areas.specs.Area.{Is, Wrote, field_end, IsAt, span}
+use Rattle.areas.specs.Area.{Is, Wrote, field_end, IsAt, span, Out, too_large}
 use Rattle.areas.specs.declared.span.Span.{Span}
 use Rattle.areas.specs.AreaLaws.{is_keep, wrote_keep, written, told}
 use Rattle.spec_trees.specs.SizeLaws.{length_tree}
 use Rattle.format.specs.Stand.{trees_bytes, Holds, Finds}
 use Rattle.format.specs.StandLaws.{tree_parts, trees_parts, trees_none, trees_places, holds_first}
-use Rattle.spec_queries.specs.Query.{Path, Stage, unwind, is_path}
+use Rattle.spec_queries.specs.Query.{Path, Stage, unwind}
 use Rattle.spec_queries.specs.Rules.{OkP}
 use Rattle.spec_queries.specs.PathLaws.{path_label}
 use Rattle.spec_trees.specs.ByteLaws.{label_small}
@@ -27,7 +21,7 @@ use Rattle.queries.specs.Places.{path_bytes}
 use Rattle.queries.specs.Steps.{step_count, step_at}
 use Rattle.queries.specs.StepLaws.{steps_are, step_is}
 use Rattle.spec_stages.specs.Unwind.{holding, unwound}
-use Rattle.spec_stages.specs.Stages.{going, step, stages}
+use Rattle.spec_stages.specs.Stages.{going, stages}
 use Rattle.place.specs.Writers.{Along, WriterReady}
 use Rattle.unwind.specs.Outcomes.{sound_bytes, Counts, Has, PutsOutcome, ElementReady, PutsElement}
 use Rattle.unwind.specs.OutcomeLaws.{entry_of_lem, entry_places, entry_kept, outcome_fits}
@@ -45,6 +39,7 @@ use Rattle.spec_stages.proofs.StageLaws.{step_unwind, unwound_alone}
 use Rattle.stream.specs.Feed.{part_at, Planned, Front, FeedReady, FeedPost, PartReady, PartPost}
 use Rattle.stream.specs.FeedLaws.{front_fits}
 use Rattle.stream.specs.Unwinding.{LeftRule, Unwinding, Parted, LeftFrom, LeftUnder, UnwoundEntry}
+use Rattle.format.specs.Labels.{Found}
 
 -- ---- any loop over what is left
 module _ {t₀ : List ℕ} {te : ℕ} {q : List ℕ} {c : Span} {m e : ℕ} {j : List ℕ} {s₀ : Collector} (h : PartReady OkP path_bytes t₀ te q (part_at c (span m e)) j s₀) where
@@ -142,7 +137,7 @@ module _ {t v : List ℕ} {xs : List ℕ} {r : Out} (l : length v ≡ length t) 
   pub written_kept : take tree_max v ≡ take tree_max t
   written_kept = wrote_keep k (omega arith)
 
-  pub written_is : {o : ℕ} → r ≡ At o → Is v tree_max o xs
+  pub written_is : {o : ℕ} → r ≡ Ok o → Is v tree_max o xs
   written_is z = written k (omega arith) z
 
   pub written_ends : ends v ≡ ends t
@@ -186,7 +181,7 @@ module _ {t₀ : List ℕ} {te : ℕ} {q : List ℕ} {c : Span} {m e : ℕ} {j :
       wrote : (a : Path) (x : Tree) → IsAt q c (path_bytes a) → Front t₀ te x → Wrote t v tree_max (rooms 2) (tree_bytes (get_or (unwound a x) i x)) r
       wrote a x z fr = k a x z fr.allowed.ok (front_now h g (front_fits fr) fr.tree_is)
 
-      pub outcome_never : r ≡ TooLarge → ⊥
+      pub outcome_never : r ≡ Err too_large → ⊥
       outcome_never z =
           let a = h.part.value in
           let x = h.next.tree in
@@ -201,7 +196,7 @@ module _ {t₀ : List ℕ} {te : ℕ} {q : List ℕ} {c : Span} {m e : ℕ} {j :
       pub outcome_ends : ends v ≡ ends t
       outcome_ends = written_ends l (wide h g) (wrote h.part.value h.next.tree h.part.value_is h.next.front)
 
-      pub outcome_parts : {o : ℕ} → r ≡ At o → (a : Path) (x : Tree) (ys : List Tree) → OkP a → IsAt q c (path_bytes a) → Front t₀ te x → LeftFrom i a x ys → Parted (LeftFrom (i + 1)) v o a x ys
+      pub outcome_parts : {o : ℕ} → r ≡ Ok o → (a : Path) (x : Tree) (ys : List Tree) → OkP a → IsAt q c (path_bytes a) → Front t₀ te x → LeftFrom i a x ys → Parted (LeftFrom (i + 1)) v o a x ys
       outcome_parts z a x ys ok y fr e =
           let n = left_next (unwound a x) i x (omega (arith, counts a x y fr.tree_is)) in
           record {
@@ -230,11 +225,11 @@ module _ {t : List ℕ} {te : ℕ} {q : List ℕ} {c : Span} {m e : ℕ} {j : Li
   one_small = one_step_small (subst OkP (one_label h.part.value h.part.value_is) h.part.allowed)
 
   module _ {l : ℕ} {r : Found} (z : l ≡ field_end t 3) (f : Finds t (span l te) k r) where
-    pub elements_missing : r ≡ Missing → PartPost OkP path_bytes unwind t t te q (part_at c (span m e)) j s s
+    pub elements_missing : r ≡ None → PartPost OkP path_bytes unwind t t te q (part_at c (span m e)) j s s
     elements_missing y = unwound_nothing h (λ a x o i fr.
         ap (λ p. unwound p x) (one_label a i) ∙ unwound_none k [] x ((f (labels x) (tree_parts x z fr.tree_is).labels_is).missing y))
 
-    pub elements_under : {a b : ℕ} → r ≡ Part (span a b) → UnwoundEntry t te q c k (span a b)
+    pub elements_under : {a b : ℕ} → r ≡ Some (span a b) → UnwoundEntry t te q c k (span a b)
     elements_under {a} {b} y = record {
       small = one_small;
       within = (entry_places (entry_of_lem z f y h.next.tree h.next.front.allowed.ok h.next.front.tree_is)).2;
@@ -310,7 +305,7 @@ module _ {t₀ : List ℕ} {te : ℕ} {q : List ℕ} {c : Span} {m e : ℕ} {j :
             let b = element_one h.part.value o.tree i.left o.front i.left_is in
             (holding k o.tree b.0, map (holding k o.tree) (list b.1), subst AllowedA b.2 i.left_is.allowed, b.3)
 
-        pub element_never : r ≡ TooLarge → ⊥
+        pub element_never : r ≡ Err too_large → ⊥
         element_never y = let b = element_first in omega (arith, (b.3.large y).over, length_tree b.0, b.2.0.small)
 
         pub element_kept : take tree_max v ≡ take tree_max t
@@ -319,7 +314,7 @@ module _ {t₀ : List ℕ} {te : ℕ} {q : List ℕ} {c : Span} {m e : ℕ} {j :
         pub element_ends : ends v ≡ ends t
         element_ends = written_ends l (wide h g) element_first.3
 
-        pub element_parts : {o : ℕ} → r ≡ At o → (a : Path) (x : Tree) (ys : List Tree) → OkP a → IsAt q c (path_bytes a) → Front t₀ te x → LeftUnder k t₀ d u a x ys → Parted (LeftUnder k t₀ y u) v o a x ys
+        pub element_parts : {o : ℕ} → r ≡ Ok o → (a : Path) (x : Tree) (ys : List Tree) → OkP a → IsAt q c (path_bytes a) → Front t₀ te x → LeftUnder k t₀ d u a x ys → Parted (LeftUnder k t₀ y u) v o a x ys
         element_parts e a x ys ok i fr w =
             let b = element_one a x ys fr w in
             let al = subst AllowedA b.2 w.allowed in

@@ -1,6 +1,6 @@
 -- Loops over the outcomes of the tree at the front, each of which goes through the stages behind the unwind: what is
 -- right for the outcomes that are left is right for all.
-use Rattle.std.specs.Prelude.{◌≡◌, List, [], ◌∷◌, map, ℕ, ◌≤◌, ◌<◌, length, take, drop}
+use Rattle.std.specs.Prelude.{◌≡◌, List, [], ◌∷◌, map, ℕ, ◌≤◌, length, take, drop}
 use Rattle.spec_trees.specs.Limits.{label_max, tree_max, depth_max}
 use Rattle.spec_trees.specs.Tree.{Tree, Trees, list}
 use Rattle.spec_trees.specs.Bytes.{tree_bytes}

@@ -4,7 +4,7 @@
 ghost use Rattle.std.specs.Prelude.{◌≡◌};
 ghost use Rattle.stream.specs.Collector.{is_large, CollectReady, Collected};
 
-use areas::area::{Out, copy};
+use areas::area::{TooLarge, copy};
 use areas::span::Span;
 use map::map::Map;
 
@@ -39,8 +39,7 @@ fn append(tail: &mut [u8], end: usize, len: usize) -> Collector
         from: base + len,
         to: base + Map::TREES,
     };
-    let out = copy(tail, Span { from: 0, to: end }, room);
-    let Out::At(e) = out else {
+    let Ok(e) = copy(tail, Span { from: 0, to: end }, room) else {
         return Collector::Over;
     };
     Collector::Len((e - base) as u16)

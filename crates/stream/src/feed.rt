@@ -13,10 +13,10 @@ ghost use Rattle.stream.specs.Feed.{FeedReady, FeedPost, OkItems, PartReady, Par
 ghost use Rattle.stream.specs.Unwinding.{UnwoundEntry};
 
 use crate::collector::{Collector, collect, is_large};
-use areas::area::{Out, field_end};
+use areas::area::{TooLarge, field_end};
 use areas::span::Span;
 use criteria::criteria::holds;
-use format::labels::{Found, find};
+use format::labels::find;
 use format::limits::Limits;
 use lookup::lookup::lookup;
 use project::project::project;
@@ -144,10 +144,8 @@ fn feed_outcomes<'a>(
     };
     let n = outcomes(query, at.part, 0, tail, tree);
     let mut held = collector;
-    let mut i = 0;
-    while i < n {
-        let out = put_outcome(tail, query, at.part, tree, i, room);
-        let Out::At(o) = out else {
+    for i in 0..n {
+        let Ok(o) = put_outcome(tail, query, at.part, tree, i, room) else {
             return Collector::Large;
         };
         held = feed(
@@ -161,7 +159,6 @@ fn feed_outcomes<'a>(
         if is_large(held) {
             return Collector::Large;
         }
-        i += 1;
     }
     held
 }
@@ -182,8 +179,7 @@ fn feed_elements<'a>(
 {
     let label = step_at(query, at.part, 0);
     let l = field_end(tail, 3);
-    let found = find(tail, Span { from: l, to: end }, label);
-    let Found::Part(trees) = found else {
+    let Some(trees) = find(tail, Span { from: l, to: end }, label) else {
         return collector;
     };
     let f = trees.from;
@@ -225,8 +221,7 @@ fn feed_each<'a>(
     while from != stop {
         let m = field_end(tail, from);
         let element = Span { from, to: m };
-        let out = put_element(tail, entry.label, tree, trees, element, room);
-        let Out::At(o) = out else {
+        let Ok(o) = put_element(tail, entry.label, tree, trees, element, room) else {
             return Collector::Large;
         };
         held = feed(
@@ -258,14 +253,13 @@ fn feed_projected<'a>(
     requires { PartReady OkItems items_bytes tail.old end query.now at joined.now collector }
     ensures { PartPost OkItems items_bytes project tail.old tail.new end query.now at joined.now collector result }
 {
-    let out = project(
+    let Ok(o) = project(
         tail,
         query,
         at.part,
         Span { from: 0, to: end },
         Limits::TREE,
-    );
-    let Out::At(o) = out else {
+    ) else {
         return Collector::Large;
     };
     feed(
@@ -296,8 +290,7 @@ fn feed_looked<'a>(
         from: 3,
         to: joined.len(),
     };
-    let out = lookup(tail, query, at, Span { from: 0, to: end }, joined, trees);
-    let Out::At(o) = out else {
+    let Ok(o) = lookup(tail, query, at, Span { from: 0, to: end }, joined, trees) else {
         return Collector::Large;
     };
     feed(tail, o, query, stages, joined, collector)

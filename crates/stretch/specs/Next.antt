@@ -1,25 +1,15 @@
 -- The next group of the stages that stand in a query's bytes.
-use Rattle.std.specs.Prelude.{◌≡◌, List, [], ◌∷◌, ℕ, ◌+◌, ◌≤◌}
+use Rattle.std.specs.Prelude.{◌≡◌, List, [], ◌∷◌, ℕ, ◌+◌, ◌≤◌, Option as Maybe, Some, None}
 use Rattle.areas.specs.Area.{IsAt}
 use Rattle.areas.specs.declared.span.Span.{Span}
 use Rattle.spec_queries.specs.Query.{Pair, Stage, group}
 use Rattle.queries.specs.Places.{pairs_bytes, stages_bytes}
-use Rattle.queries.specs.declared.stage.StageAt.{StageAt}
 use Rattle.spec_stages.specs.Stretch.{behind}
-use Rattle.stretch.specs.declared.next.Next.{Next}
 use Rattle.stretch.specs.declared.next.StretchAt.{StretchAt}
 use Rattle.queries.specs.declared.stage.GroupAt.{GroupAt}
 
 abbrev pub stretch_at : GroupAt → Span → StretchAt
 stretch_at g n = record { group = g; next = n }
-
--- a stage as a group, with the stages behind it
-abbrev pub group_of : StageAt → Span → Next
-group_of (StageAt.Match f) n = Next.End
-group_of (StageAt.Unwind f) n = Next.End
-group_of (StageAt.Project f) n = Next.End
-group_of (StageAt.Group g) n = Next.Group (stretch_at g n)
-group_of (StageAt.Lookup f) n = Next.End
 
 -- of the stages ss, the next group has its pairs there, and the others stand behind it, up to the same end
 pub record StretchIs (q : List ℕ) (stages_at : Span) (ss : List Stage) (at : StretchAt) : Type 0 where
@@ -34,10 +24,10 @@ pub record StretchIs (q : List ℕ) (stages_at : Span) (ss : List Stage) (at : S
   pub within : at.next.from ≤ at.next.to
   pub end : at.next.to ≡ stages_at.to
 
-pub record NextIs (q : List ℕ) (stages_at : Span) (ss : List Stage) (r : Next) : Type 0 where
-  pub group_is : (at : StretchAt) → r ≡ Next.Group at → StretchIs q stages_at ss at
-  pub none : r ≡ Next.End → behind ss ≡ []
+pub record NextIs (q : List ℕ) (stages_at : Span) (ss : List Stage) (r : Maybe StretchAt) : Type 0 where
+  pub group_is : (at : StretchAt) → r ≡ Some at → StretchIs q stages_at ss at
+  pub none : r ≡ None → behind ss ≡ []
 
 -- r is right of whatever stages stand there
-abbrev pub NextPost : (q : List ℕ) (stages_at : Span) → Next → Type 0
+abbrev pub NextPost : (q : List ℕ) (stages_at : Span) → Maybe StretchAt → Type 0
 NextPost q stages_at r = (ss : List Stage) → IsAt q stages_at (stages_bytes ss) → NextIs q stages_at ss r

@@ -1,21 +1,20 @@
 -- Laws of the search for the next group, stage by stage.
 use Rattle.std.proofs.Math.Path.{◌≡◌, refl, ap}
 use Rattle.std.proofs.Common.{sym, subst, ◌∙◌, arith}
-use Rattle.std.specs.Prelude.{List, ◌∷◌, ℕ, ◌+◌, ◌≤◌, length}
+use Rattle.std.specs.Prelude.{List, ◌∷◌, ℕ, ◌+◌, ◌≤◌, length, Option as Maybe, Some, None}
 use Rattle.std.proofs.Math.Bool.{false}
-use Rattle.areas.specs.Area.{Is, IsAt, field_end, span}
-use Rattle.areas.specs.declared.span.Span.{Span}
+use Rattle.areas.specs.Area.{Is, field_end, span}
 use Rattle.format.specs.Stand.{Holds}
 use Rattle.spec_queries.specs.Query.{Pair, Stage, group}
 use Rattle.spec_queries.specs.Bytes.{stage_f}
-use Rattle.queries.specs.Places.{pairs_bytes, stage_bytes, stages_bytes, ReadsStage}
+use Rattle.queries.specs.Places.{stage_bytes, stages_bytes, group_of, ReadsStage}
 use Rattle.queries.specs.PartLaws.{list_parts, list_none}
 use Rattle.queries.specs.declared.stage.StageAt.{StageAt}
 use Rattle.spec_stages.specs.Stages.{is_group}
 use Rattle.spec_stages.specs.Stretch.{behind}
-use Rattle.stretch.specs.declared.next.Next.{Next}
+use Rattle.queries.specs.declared.stage.GroupAt.{GroupAt}
 use Rattle.stretch.specs.declared.next.StretchAt.{StretchAt}
-use Rattle.stretch.specs.Next.{stretch_at, group_of, StretchIs, NextIs, NextPost}
+use Rattle.stretch.specs.Next.{stretch_at, StretchIs, NextIs, NextPost}
 
 behind_plain : (s : Stage) (ss : List Stage) → is_group s ≡ false → behind (s ∷ ss) ≡ behind ss
 unfolding behind
@@ -26,7 +25,7 @@ unfolding behind is_group
 behind_group ags gs ss = refl
 
 -- ---- no stage is left
-pub next_end : {q : List ℕ} {p e : ℕ} → p ≡ e → NextPost q (span p e) Next.End
+pub next_end : {q : List ℕ} {p e : ℕ} → p ≡ e → NextPost q (span p e) None
 unfolding behind
 next_end z ss h = record {
   group_is = λ at y. let x : ◌≡◌ {A = ℕ} 0 1 = cc in absurd (omega arith);
@@ -44,20 +43,20 @@ module _ {q : List ℕ} {p m e : ℕ} (z : p ≡ e → ⊥) (y : m ≡ field_end
     pub next_rest : Holds stages_bytes q m e
     next_rest = let c = list_parts stage_f h.value y z h.value_is in record { value = c.rest; value_is = c.rest_is }
 
-  module _ {x : StageAt} (reads : ReadsStage q (span p m) x) {n : Next} (k : n ≡ group_of x (span m e)) where
+  module _ {x : StageAt} (reads : ReadsStage q (span p m) x) {n : Maybe GroupAt} (k : n ≡ group_of x) where
     -- the stage is no group
-    plain : n ≡ Next.End → (s : Stage) → Is q p m (stage_bytes s) → is_group s ≡ false
+    plain : n ≡ None → (s : Stage) → Is q p m (stage_bytes s) → is_group s ≡ false
     unfolding is_group
     plain l s h = go x refl (sym k ∙ l)
       where
-        go : (x2 : StageAt) → x ≡ x2 → group_of x2 (span m e) ≡ Next.End → is_group s ≡ false
+        go : (x2 : StageAt) → x ≡ x2 → group_of x2 ≡ None → is_group s ≡ false
         go (StageAt.Match f) w v = ap is_group ((reads s h).match_is f w).same
         go (StageAt.Unwind f) w v = ap is_group ((reads s h).unwind_is f w).same
         go (StageAt.Project f) w v = ap is_group ((reads s h).project_is f w).same
         go (StageAt.Group f) w v = let a : ◌≡◌ {A = ℕ} 0 1 = cc in absurd (omega arith)
         go (StageAt.Lookup f) w v = ap is_group ((reads s h).lookup_is f w).same
 
-    pub next_on : n ≡ Next.End → (r : Next) → NextPost q (span m e) r → NextPost q (span p e) r
+    pub next_on : n ≡ None → (r : Maybe StretchAt) → NextPost q (span m e) r → NextPost q (span p e) r
     next_on l r f ss h =
         let c = list_parts stage_f ss y z h in
         let i = f c.rest c.rest_is in
@@ -79,10 +78,10 @@ module _ {q : List ℕ} {p m e : ℕ} (z : p ≡ e → ⊥) (y : m ≡ field_end
         }
 
     -- the stage is a group
-    pub next_here : {at : StretchAt} → n ≡ Next.Group at → NextPost q (span p e) n
+    pub next_here : {at : GroupAt} → n ≡ Some at → NextPost q (span p e) (Some (stretch_at at (span m e)))
     next_here {at} l ss h = go x refl (sym k ∙ l)
       where
-        go : (x2 : StageAt) → x ≡ x2 → group_of x2 (span m e) ≡ Next.Group at → NextIs q (span p e) ss n
+        go : (x2 : StageAt) → x ≡ x2 → group_of x2 ≡ Some at → NextIs q (span p e) ss (Some (stretch_at at (span m e)))
         go (StageAt.Match f) w v = let a : ◌≡◌ {A = ℕ} 0 1 = cc in absurd (omega arith)
         go (StageAt.Unwind f) w v = let a : ◌≡◌ {A = ℕ} 0 1 = cc in absurd (omega arith)
         go (StageAt.Project f) w v = let a : ◌≡◌ {A = ℕ} 0 1 = cc in absurd (omega arith)
@@ -90,7 +89,7 @@ module _ {q : List ℕ} {p m e : ℕ} (z : p ≡ e → ⊥) (y : m ≡ field_end
         go (StageAt.Group g) w v =
             let c = list_parts stage_f ss y z h in
             let d = (reads c.first c.first_is).group_is g w in
-            let nis : n ≡ Next.Group (stretch_at g (span m e)) = k ∙ ap (λ s. group_of s (span m e)) w in
+            let ga : g ≡ at = cc in
             let there : StretchIs q (span p e) ss (stretch_at g (span m e)) = record {
               aggregates = d.first;
               grouping = d.second;
@@ -103,7 +102,7 @@ module _ {q : List ℕ} {p m e : ℕ} (z : p ≡ e → ⊥) (y : m ≡ field_end
               within = omega (arith, c.within);
               end = refl;
             } in
-            record {
+            subst (λ i. NextIs q (span p e) ss (Some (stretch_at i (span m e)))) ga record {
               group_is = λ at2 v3. let e1 : stretch_at g (span m e) ≡ at2 = cc in subst (StretchIs q (span p e) ss) e1 there;
               none = λ v3. let a : ◌≡◌ {A = ℕ} 0 1 = cc in absurd (omega arith);
             }

@@ -24,8 +24,7 @@ use Rattle.spec_stages.proofs.PositionLaws.{carried_then, carried_within}
 use Rattle.map.specs.MapLaws.{first_fits}
 use Rattle.positions.specs.BearingLaws.{few_trees}
 use Rattle.stream.specs.Feed.{Planned}
-use Rattle.stretches.specs.declared.ended.Ended.{Ended}
-use Rattle.stretches.specs.Ended.{EndedIs, Forms, Runs}
+use Rattle.stretches.specs.Ended.{Ended, EndedIs, Forms, Runs}
 use Rattle.first_stretch.specs.First.{FirstReady, FirstPost}
 use Rattle.stretch.specs.Carry.{Positions}
 use Rattle.stretches.specs.Later.{Allows, LaterReady, LaterPost}

@@ -1,6 +1,6 @@
 -- What the answer of all stretches says: the state that the plain run's stages come to, where its trees stand, and which
 -- positions they bear.
-use Rattle.std.specs.Prelude.{◌≡◌, List, ℕ, ◌+◌, ◌≤◌, ◌<◌}
+use Rattle.std.specs.Prelude.{◌≡◌, List, ℕ, ◌+◌, ◌≤◌, ◌<◌, Result, Ok, Err}
 use Rattle.spec_trees.specs.Limits.{array_max}
 use Rattle.spec_trees.specs.Tree.{Tree}
 use Rattle.spec_trees.specs.Size.{array_size}
@@ -15,7 +15,12 @@ use Rattle.spec_stages.specs.Stages.{too_long, overflow, State, going, large, ha
 use Rattle.spec_stages.specs.Positions.{Borne, unmarked, numbered, carried}
 use Rattle.map.specs.Map.{collected_at}
 use Rattle.positions.specs.Bearing.{Bears}
-use Rattle.stretches.specs.declared.ended.Ended.{Ended}
+use Rattle.stretches.specs.declared.ended.Failure.{Failure}
+use Rattle.stretches.specs.declared.ended.Failure.TheVariants as failure
+
+-- with an array, of whose trees the collector holds so many bytes, or by a failure
+abbrev pub Ended : Type 0
+Ended = Result ℕ Failure
 
 -- the trees of the state are bs, which stand in the collector, n bytes of them, bear their positions, and are no more than
 -- an array may have
@@ -33,11 +38,11 @@ pub record FullIs (st : State) : Type 0 where
 
 -- r says the state st, whose trees are bs if it goes on; w is the area
 pub record EndedIs (w : List ℕ) (r : Ended) (st : State) (bs : List Borne) : Type 0 where
-  pub held : (n : ℕ) → r ≡ Ended.Held n → HeldIs w n st bs
-  pub full : r ≡ Ended.Full → FullIs st
-  pub large_is : r ≡ Ended.Large → st ≡ large
-  pub long_is : r ≡ Ended.Long → st ≡ halted too_long
-  pub overflow_is : r ≡ Ended.Overflow → st ≡ halted overflow
+  pub held : (n : ℕ) → r ≡ Ok n → HeldIs w n st bs
+  pub full : r ≡ Err failure.Full → FullIs st
+  pub large_is : r ≡ Err failure.Large → st ≡ large
+  pub long_is : r ≡ Err failure.Long → st ≡ halted too_long
+  pub overflow_is : r ≡ Err failure.Overflow → st ≡ halted overflow
 
 -- ---- all stretches
 -- the byte forms of an admitted query, and of an input and a joined array within the limits

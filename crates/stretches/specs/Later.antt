@@ -1,5 +1,5 @@
 -- What the functions of the later stretches ask of the areas, and what they do.
-use Rattle.std.specs.Prelude.{◌≡◌, List, Bool, true, false, ℕ, ◌≤◌, length}
+use Rattle.std.specs.Prelude.{◌≡◌, List, Bool, true, false, ℕ, ◌≤◌, length, Result, Ok, Err}
 use Rattle.spec_trees.specs.Limits.{stages_max, work_min}
 use Rattle.spec_trees.specs.Tree.{Tree}
 use Rattle.spec_trees.specs.Within.{AllowedA}
@@ -13,13 +13,13 @@ use Rattle.spec_stages.specs.Stretch.{before, behind}
 use Rattle.spec_stages.specs.Positions.{Borne, unmarked, carry, carried}
 use Rattle.map.specs.Map.{lent_part}
 use Rattle.stream.specs.Feed.{Planned}
-use Rattle.stretches.specs.declared.ended.Ended.{Ended}
-use Rattle.stretches.specs.declared.later.Grouped.{Grouped}
+use Rattle.stretches.specs.Ended.{Ended, EndedIs}
+use Rattle.stretches.specs.declared.ended.Failure.{Failure}
 use Rattle.stretch.specs.Carry.{Positions, Holds, Shows}
-use Rattle.stretches.specs.Ended.{EndedIs}
 use Rattle.areas.specs.declared.span.Span.{Span}
 use Rattle.stretch.specs.declared.next.StretchAt.{StretchAt}
 use Rattle.group_stretch.specs.Group.{GroupPlan, through}
+use Rattle.stretches.specs.declared.ended.Failure.TheVariants as failure
 
 -- the trees of the state are allowed
 abbrev pub Allows : State → Type 0
@@ -40,10 +40,14 @@ pub record HeldReady (w : List ℕ) (n : ℕ) (q : List ℕ) (at : StretchAt) (j
   pub holds : Holds w (Len n) borne
   pub size : length w ≡ work_min
 
+-- what became of an array that entered a group: what left the stretch is collected, or a total of a class does not fit
+abbrev pub Grouped : Type 0
+Grouped = Result Collector Failure
+
 -- where the totals fit, what leaves the stretch was collected; else that is told
 pub record GroupedIs (v : List ℕ) (fit : Bool) (st : State) (bs : List Borne) (r : Grouped) : Type 0 where
-  pub collected : (c : Collector) → r ≡ Grouped.Collected c → (fit ≡ true) × Shows v c st bs
-  pub overflow : r ≡ Grouped.Overflow → fit ≡ false
+  pub collected : (c : Collector) → r ≡ Ok c → (fit ≡ true) × Shows v c st bs
+  pub overflow : (e : Failure) → r ≡ Err e → (e ≡ failure.Overflow) × (fit ≡ false)
 
 -- a class's tree bears the position of its first member
 abbrev pub HeldPost : (w v : List ℕ) (n : ℕ) (q : List ℕ) (at : StretchAt) (j : List ℕ) → Grouped → Type 0

@@ -1,6 +1,6 @@
 -- Laws of the later stretches: one after another they come to what the plain run's stages come to.
 use Rattle.std.proofs.Math.Path.{◌≡◌, ap, subst}
-use Rattle.std.specs.Prelude.{refl, List, ◌∷◌, Bool, true, false, ℕ, suc, ◌+◌, ◌≤◌, ◌<◌, length}
+use Rattle.std.specs.Prelude.{refl, List, ◌∷◌, Bool, true, false, ℕ, suc, ◌+◌, ◌≤◌, ◌<◌, length, Ok, Err}
 use Rattle.std.proofs.Common.{sym, ◌∙◌, arith}
 use Rattle.spec_trees.specs.Limits.{array_max, depth_max, stages_max}
 use Rattle.spec_trees.specs.Lists.{All}
@@ -19,7 +19,7 @@ use Rattle.spec_stages.specs.FitLaws.{fit_classes}
 use Rattle.spec_stages.specs.Flat.{flat}
 use Rattle.spec_stages.specs.PermutesLaws.{All-permutes, permutes_back}
 use Rattle.spec_stages.proofs.GroupedLaws.{grouped_permutes}
-use Rattle.spec_stages.specs.Stages.{too_long, overflow, State, going, large, halted, after, step, stages}
+use Rattle.spec_stages.specs.Stages.{too_long, overflow, State, going, large, halted, step, stages}
 use Rattle.spec_stages.proofs.KeepLaws.{stages_allowed}
 use Rattle.stream.specs.declared.collector.Collector.{Collector}
 use Rattle.stream.specs.declared.collector.Collector.TheVariants.{Len, Over, Large}
@@ -35,18 +35,23 @@ use Rattle.stream.specs.Collector.{is_large}
 use Rattle.stream.specs.Feed.{Planned}
 use Rattle.key_index.specs.Index.{Collected}
 use Rattle.arrange.specs.Arrange.{Arranges}
-use Rattle.stretches.specs.declared.ended.Ended.{Ended}
-use Rattle.stretches.specs.declared.later.Grouped.{Grouped}
-use Rattle.stretch.specs.declared.next.Next.{Next}
+use Rattle.std.specs.Prelude.{Option as Maybe, Some, None, Result, IsErrAnd}
+use Rattle.std.proofs.lemmas.Result.{err_from_is_err_and}
+use Rattle.stretches.specs.declared.ended.Failure.{Failure}
+use Rattle.stretches.specs.Ended.{Ended, HeldIs, FullIs, EndedIs}
+use Rattle.stretches.specs.Later.{Grouped, Allows, LastPost, HeldReady, GroupedIs, HeldPost, LaterReady, LaterPost}
 use Rattle.stretch.specs.declared.next.StretchAt.{StretchAt}
 use Rattle.stretch.specs.Carry.{Positions, Holds, Taken, Shows}
 use Rattle.stretch.specs.CarryLaws.{clash}
-use Rattle.stretches.specs.Ended.{HeldIs, FullIs, EndedIs}
 use Rattle.group_stretch.specs.Group.{GroupReady, GroupPost, through, borne_through}
 use Rattle.classes.specs.Read.{Stems, ClassesAt}
 use Rattle.classes.specs.Fit.{PairsFit}
 use Rattle.stretch.specs.Next.{StretchIs, NextPost}
-use Rattle.stretches.specs.Later.{Allows, LastPost, HeldReady, GroupedIs, HeldPost, LaterReady, LaterPost}
+use Rattle.stretches.specs.declared.ended.Failure.TheVariants as failure
+
+-- what a `?` hands on
+pub failure_on : {A : Type 0} {e : Failure} (r : Result A Failure) → IsErrAnd r (λ u. u ≡ e) → r ≡ Err e
+failure_on r h = let p = err_from_is_err_and r h in p.1 ∙ ap Err p.2
 
 -- ---- sizes
 pub size_is : (ts : List Tree) → array_size ts ≡ 3 + length (array_trees ts)
@@ -83,7 +88,7 @@ holds_short w n bs h = let i = holds_is w n bs h in omega (arith, size_is (unmar
 
 -- ---- no group is left
 module _ {s : Collector} where
-  pub last_held : {n : ℕ} → s ≡ Len n → LastPost s (Ended.Held n)
+  pub last_held : {n : ℕ} → s ≡ Len n → LastPost s (Ok n)
   last_held {n} z w st bs h =
       let x = shown_held w n st bs (subst (λ y. Shows w y st bs) z h) in
       let i = holds_is w n bs x.1 in
@@ -97,7 +102,7 @@ module _ {s : Collector} where
         overflow_is = λ q. let y : ◌≡◌ {A = ℕ} 0 1 = cc in absurd (omega arith);
       }
 
-  pub last_full : s ≡ Over → LastPost s Ended.Full
+  pub last_full : s ≡ Over → LastPost s (Err failure.Full)
   last_full z w st bs h = record {
     held = λ m q. let y : ◌≡◌ {A = ℕ} 0 1 = cc in absurd (omega arith);
     full = λ q. shown_over w st bs (subst (λ y. Shows w y st bs) z h);
@@ -106,7 +111,7 @@ module _ {s : Collector} where
     overflow_is = λ q. let y : ◌≡◌ {A = ℕ} 0 1 = cc in absurd (omega arith);
   }
 
-  pub last_large : s ≡ Large → LastPost s Ended.Large
+  pub last_large : s ≡ Large → LastPost s (Err failure.Large)
   last_large z w st bs h = record {
     held = λ m q. let y : ◌≡◌ {A = ℕ} 0 1 = cc in absurd (omega arith);
     full = λ q. let y : ◌≡◌ {A = ℕ} 0 1 = cc in absurd (omega arith);
@@ -115,7 +120,7 @@ module _ {s : Collector} where
     overflow_is = λ q. let y : ◌≡◌ {A = ℕ} 0 1 = cc in absurd (omega arith);
   }
 
-ends_large : (w : List ℕ) {st : State} (bs : List Borne) → st ≡ large → EndedIs w Ended.Large st bs
+ends_large : (w : List ℕ) {st : State} (bs : List Borne) → st ≡ large → EndedIs w (Err failure.Large) st bs
 ends_large w bs z = record {
   held = λ m q. let y : ◌≡◌ {A = ℕ} 0 1 = cc in absurd (omega arith);
   full = λ q. let y : ◌≡◌ {A = ℕ} 0 1 = cc in absurd (omega arith);
@@ -124,7 +129,7 @@ ends_large w bs z = record {
   overflow_is = λ q. let y : ◌≡◌ {A = ℕ} 0 1 = cc in absurd (omega arith);
 }
 
-pub ends_long : (w : List ℕ) {st : State} (bs : List Borne) → st ≡ halted too_long → EndedIs w Ended.Long st bs
+pub ends_long : (w : List ℕ) {st : State} (bs : List Borne) → st ≡ halted too_long → EndedIs w (Err failure.Long) st bs
 ends_long w bs z = record {
   held = λ m q. let y : ◌≡◌ {A = ℕ} 0 1 = cc in absurd (omega arith);
   full = λ q. let y : ◌≡◌ {A = ℕ} 0 1 = cc in absurd (omega arith);
@@ -133,7 +138,7 @@ ends_long w bs z = record {
   overflow_is = λ q. let y : ◌≡◌ {A = ℕ} 0 1 = cc in absurd (omega arith);
 }
 
-pub ends_overflow : (w : List ℕ) {st : State} (bs : List Borne) → st ≡ halted overflow → EndedIs w Ended.Overflow st bs
+pub ends_overflow : (w : List ℕ) {st : State} (bs : List Borne) → st ≡ halted overflow → EndedIs w (Err failure.Overflow) st bs
 ends_overflow w bs z = record {
   held = λ m q. let y : ◌≡◌ {A = ℕ} 0 1 = cc in absurd (omega arith);
   full = λ q. let y : ◌≡◌ {A = ℕ} 0 1 = cc in absurd (omega arith);
@@ -143,17 +148,17 @@ ends_overflow w bs z = record {
 }
 
 -- ---- the stretches from here on
-module _ {q : List ℕ} {p : Span} {r : Next} (k : NextPost q p r) where
-  pub later_last : (w : List ℕ) {j : List ℕ} (s : Collector) (o : Ended) → r ≡ Next.End → LastPost s o → LaterPost w w q p j s o
+module _ {q : List ℕ} {p : Span} {r : Maybe StretchAt} (k : NextPost q p r) where
+  pub later_last : (w : List ℕ) {j : List ℕ} (s : Collector) (o : Ended) → r ≡ None → LastPost s o → LaterPost w w q p j s o
   unfolding stages carried
   later_last w s o z f st bs ss us h a b d =
       subst (λ l. EndedIs w o (stages us l st) (carried us l bs)) (sym ((k ss d.stages_is).none z)) (f w st bs h)
 
-  pub later_large : (w : List ℕ) {j : List ℕ} {s : Collector} → s ≡ Large → LaterPost w w q p j s Ended.Large
+  pub later_large : (w : List ℕ) {j : List ℕ} {s : Collector} → s ≡ Large → LaterPost w w q p j s (Err failure.Large)
   later_large w z st bs ss us h a b d =
       ends_large w (carried us (behind ss) bs) (ap (stages us (behind ss)) (shown_large w st bs (subst (λ y. Shows w y st bs) z h)) ∙ stages_large us (behind ss))
 
-  module _ {at : StretchAt} (z : r ≡ Next.Group at) where
+  module _ {at : StretchAt} (z : r ≡ Some at) where
     here : (ss : List Stage) → IsAt q p (stages_bytes ss) → StretchIs q p ss at
     here ss h = (k ss h).group_is at z
 
@@ -223,7 +228,7 @@ module _ {q : List ℕ} {p : Span} {r : Next} (k : NextPost q p r) where
           go (halted h) y = tt
 
     -- an array that is too long enters it
-    pub later_long : (w : List ℕ) {j : List ℕ} {s : Collector} → s ≡ Over → LaterPost w w q p j s Ended.Long
+    pub later_long : (w : List ℕ) {j : List ℕ} {s : Collector} → s ≡ Over → LaterPost w w q p j s (Err failure.Long)
     later_long w y st bs ss us h a b d =
         let x = shown_over w st bs (subst (λ l. Shows w l st bs) y h) in
         let c = part ss us d in
@@ -281,16 +286,17 @@ module _ {q : List ℕ} {p : Span} {r : Next} (k : NextPost q p r) where
               (pairs_of ss us d) (held_allowed st bs h a) v (held st bs h).1 (planned_of ss us d)
 
           -- a total does not fit
-          pub later_overflow : g ≡ Grouped.Overflow → LaterPost w x q p j s Ended.Overflow
+          pub later_overflow : {failed : Failure} → g ≡ Err failed → LaterPost w x q p j s (Err failed)
           unfolding fits_next
-          later_overflow e st bs ss us h a v d =
+          later_overflow {failed} e st bs ss us h a v d =
               let c = part ss us d in
-              ends_overflow x (carried us (behind ss) bs) (rest_is ss us d st
+              let o = (came st bs ss us h a v d).overflow failed e in
+              rw o.0 (ends_overflow x (carried us (behind ss) bs) (rest_is ss us d st
               ∙ ap (λ l. stages us c.others (step us (group c.aggregates c.grouping) l)) (held st bs h).0
-              ∙ ap (stages us c.others) (group_overflow us c.aggregates c.grouping (unmarked bs) (held_short st bs h) ((came st bs ss us h a v d).overflow e))
-              ∙ stages_halted us c.others overflow)
+              ∙ ap (stages us c.others) (group_overflow us c.aggregates c.grouping (unmarked bs) (held_short st bs h) o.1)
+              ∙ stages_halted us c.others overflow))
 
-          module _ {o : Collector} (e : g ≡ Grouped.Collected o) where
+          module _ {o : Collector} (e : g ≡ Ok o) where
             shown : (st : State) (bs : List Borne) (ss : List Stage) (us : List Tree) → Shows w s st bs → Allows st → Positions bs → (d : Planned q p j ss us)
                 → (fits_next ss us d (unmarked bs) ≡ true) × Shows x o (next_state ss us d (unmarked bs)) (next_borne ss us d bs)
             shown st bs ss us h a v d = (came st bs ss us h a v d).collected o e
@@ -367,10 +373,10 @@ module _ {w : List ℕ} {n : ℕ} {q : List ℕ} {at : StretchAt} {j : List ℕ}
       fits_are ags gs bs hp a v h =
           fits ags (λ t. origin gs t bs) (grouped gs (unmarked bs)) hp.aggregates_is (stems_of gs bs v) (grouped_allowed gs (unmarked bs) a) (k (collected bs hp a h))
 
-      pub held_overflow : f ≡ false → HeldPost w x n q at j Grouped.Overflow
+      pub held_overflow : f ≡ false → HeldPost w x n q at j (Err failure.Overflow)
       held_overflow z ags gs bs ss us hp a v h hl = record {
         collected = λ c e. let y : ◌≡◌ {A = ℕ} 0 1 = cc in absurd (omega arith);
-        overflow = λ e. sym (fits_are ags gs bs hp a v h) ∙ z;
+        overflow = λ e y. let i : failure.Overflow ≡ e = cc in (sym i, sym (fits_are ags gs bs hp a v h) ∙ z);
       }
 
       -- where they do
@@ -395,7 +401,7 @@ module _ {w : List ℕ} {n : ℕ} {q : List ℕ} {at : StretchAt} {j : List ℕ}
           short = held_classes.short;
         }
 
-        pub held_post : (x2 : List ℕ) (o : Collector) → GroupPost x x2 n q at j o → HeldPost w x2 n q at j (Grouped.Collected o)
+        pub held_post : (x2 : List ℕ) (o : Collector) → GroupPost x x2 n q at j o → HeldPost w x2 n q at j (Ok o)
         unfolding collected borne_through
         held_post x2 o p ags gs bs ss us hp a v h hl =
             let e = fit ags gs bs hp a v h in
@@ -404,5 +410,5 @@ module _ {w : List ℕ} {n : ℕ} {q : List ℕ} {at : StretchAt} {j : List ℕ}
             (grouped_allowed gs (unmarked bs) a, fit_classes ags (grouped gs (unmarked bs)) e) (k (collected bs hp a h)) hl) in
             record {
               collected = λ c y. let d : o ≡ c = cc in (e, subst (λ i. Shows x2 i (through us ss ags gs (grouped gs (unmarked bs))) (carried us (before ss) (carry us (group ags gs) bs))) d shown);
-              overflow = λ y. let i : ◌≡◌ {A = ℕ} 0 1 = cc in absurd (omega arith);
+              overflow = λ e y. let i : ◌≡◌ {A = ℕ} 0 1 = cc in absurd (omega arith);
             }

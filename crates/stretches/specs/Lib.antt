@@ -4,3 +4,4 @@ pub mod Later
 -- Laws.
 pub mod LaterLaws
 pub mod AllLaws
+pub mod Failure

@@ -3,13 +3,18 @@ ghost use Rattle.std.specs.Prelude.{◌≡◌, length};
 ghost use Rattle.spec_trees.specs.Limits.{work_min};
 ghost use Rattle.stretches.specs.Ended.{Forms, Runs};
 
-use crate::ended::Ended;
+use crate::ended::Failure;
 use crate::later::later;
 use first_stretch::first::first;
 use queries::stage::stages_of;
 
 /// All stretches of an admitted call, in a work area of 65,536 bytes. The result area is not touched.
-pub fn all<'a>(query: &'a [u8], input: &'a [u8], joined: &'a [u8], work: &mut [u8]) -> Ended
+pub fn all<'a>(
+    query: &'a [u8],
+    input: &'a [u8],
+    joined: &'a [u8],
+    work: &mut [u8],
+) -> Result<usize, Failure>
     requires { Forms query.now input.now joined.now × (length work.old ≡ work_min) }
     ensures { Runs query.now input.now joined.now work.new result }
 {

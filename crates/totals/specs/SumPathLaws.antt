@@ -1,10 +1,8 @@
 -- Laws of adding the integer roots that a path gives: of a tree, and tree by tree of an array.
-use Rattle.std.specs.Prelude.{◌≡◌, refl, List, [], ◌∷◌, ℕ, ◌≤◌}
+use Rattle.std.specs.Prelude.{◌≡◌, refl, List, [], ◌∷◌, ℕ, ◌≤◌, Some, None}
 use Rattle.std.proofs.Common.{sym, arith}
 use Rattle.std.proofs.Math.Path.{subst}
 use Rattle.std.proofs.Math.Option.{none, some}
-use Rattle.format.specs.declared.labels.Found.{Found}
-use Rattle.format.specs.declared.labels.Found.TheVariants.{Part, Missing}
 use Rattle.spec_trees.specs.Lists.{All, gather}
 use Rattle.spec_trees.specs.Options.{maybe}
 use Rattle.spec_trees.specs.Tree.{Tree, trees}
@@ -23,6 +21,7 @@ use Rattle.totals.specs.declared.exact.Total.{Total}
 use Rattle.totals.specs.Exact.{IsTotal, Sound}
 use Rattle.totals.specs.Sum.{AddsTrees, AddsTree, AddsPart, TotalOver}
 use Rattle.totals.specs.SumLaws.{trees_same, trees_seq}
+use Rattle.format.specs.Labels.{Found}
 
 -- ---- what a path gives: none, and one after another
 pub given_none : (t : Total) → AddsTrees t t (given none)
@@ -50,10 +49,10 @@ pub found_places : {s : List ℕ} {a b : ℕ} {x : Given} {c d : ℕ} → ArrayI
 found_places h = (h.after, omega (arith, h.array_is.ends), h.within)
 
 module _ {s : List ℕ} {at : Span} {x : Given} {found : Found} (t : Total) (f : FoundIs s at x found) where
-  pub found_missing : found ≡ Missing → AddsTrees t t (given x)
+  pub found_missing : found ≡ None → AddsTrees t t (given x)
   found_missing z = subst (λ y. AddsTrees t t (given y)) (sym (f.missing z)) (given_none t)
 
-  pub found_piece : {r : Total} {c d : ℕ} → found ≡ Part (span c d) → AddsPart s (span c d) t r → AddsTrees t r (given x)
+  pub found_piece : {r : Total} {c d : ℕ} → found ≡ Some (span c d) → AddsPart s (span c d) t r → AddsTrees t r (given x)
   unfolding given
   found_piece {r} {c} {d} z k =
       let a = f.part (span c d) z in

@@ -3,8 +3,7 @@ use Rattle.std.specs.Prelude.{◌≡◌, List, true, ℕ, ℤ}
 use Rattle.std.proofs.Math.Option.{Option}
 use Rattle.areas.specs.declared.span.Span.{Span}
 use Rattle.spec_stages.specs.Totals.{fits_signed, total_given}
-use Rattle.data.specs.declared.value.Value.{Value}
-use Rattle.data.specs.Value.{WroteFound}
+use Rattle.data.specs.Value.{Value, WroteFound}
 use Rattle.totals.specs.declared.exact.Total.{Total}
 use Rattle.totals.specs.Exact.{IsTotal}
 

@@ -1,19 +1,17 @@
 -- Laws of writing a total.
-use Rattle.std.specs.Prelude.{◌≡◌, List, [], ◌∷◌, ℕ, ℤ}
+use Rattle.std.specs.Prelude.{◌≡◌, List, [], ◌∷◌, ℕ, ℤ, None, Ok}
 use Rattle.std.proofs.Math.Path.{refl, subst}
 use Rattle.std.proofs.Common.{sym, ap, ◌∙◌, arith}
 use Rattle.std.proofs.Math.Option.{Option, none, some}
-use Rattle.areas.specs.declared.area.Out.{Out}
 use Rattle.spec_trees.specs.Tree.{integer, node, bare, trees}
 use Rattle.spec_trees.specs.Bytes.{pattern, root_f, tree_f, tree_bytes}
 use Rattle.spec_trees.proofs.FieldLaws.{bytes_one}
-use Rattle.areas.specs.Area.{Wrote, span}
+use Rattle.areas.specs.Area.{Wrote, span, Out}
 use Rattle.bare.specs.Bare.{integer_tree}
 use Rattle.bare.specs.BareLaws.{bare_bytes}
 use Rattle.format.specs.Stand.{trees_bytes}
 use Rattle.spec_stages.specs.Totals.{total_given}
-use Rattle.data.specs.declared.value.Value.{Value}
-use Rattle.data.specs.Value.{WroteFound, value_of}
+use Rattle.data.specs.Value.{Value, WroteFound, value_of}
 use Rattle.data.specs.ValueLaws.{value_absent, value_array}
 use Rattle.totals.specs.declared.exact.Total.{Total}
 use Rattle.totals.specs.Exact.{IsTotal, BitsOf}
@@ -30,7 +28,7 @@ none_here none z g = refl
 none_here (some y) z g = absurd (omega (arith, g.counts))
 
 module _ (w : List ℕ) (d stop : ℕ) (t : Total) where
-  pub total_none : t.count ≡ 0 → WroteTotal w w (span d stop) t Value.Absent
+  pub total_none : t.count ≡ 0 → WroteTotal w w (span d stop) t (Ok None)
   unfolding total_given
   total_none z x g f = value_absent w d stop (ap total_given (none_here x z g))
 

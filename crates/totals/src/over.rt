@@ -10,7 +10,6 @@ use crate::exact::{Total, nothing};
 use crate::sum::{sum_trees, sum_walk};
 use areas::area::field_end;
 use areas::span::Span;
-use format::labels::Found;
 use paths::path::piece;
 use queries::path::steps;
 
@@ -21,8 +20,7 @@ fn sum_path(query: &[u8], path: Span, area: &[u8], tree: Span, total: Total) -> 
     ensures { Summed total result tree × Tells query.now path 0 area.now tree (λ x. AddsTrees total result (given x)) }
 {
     if steps(query, path) <= 1 {
-        let found = piece(query, path, area, tree);
-        let Found::Part(part) = found else {
+        let Some(part) = piece(query, path, area, tree) else {
             return total;
         };
         return sum_trees(area, part, total);

@@ -11,7 +11,6 @@ use areas::area::field_end;
 use areas::number::word_at;
 use areas::span::Span;
 use bare::integer::Integer;
-use format::labels::Found;
 use paths::path::under;
 use queries::path::steps;
 
@@ -52,8 +51,7 @@ pub fn sum_walk(query: &[u8], path: Span, i: usize, area: &[u8], tree: Span, tot
     if i == steps(query, path) {
         return sum_tree(area, tree, total);
     }
-    let found = under(query, path, i, area, tree);
-    let Found::Part(part) = found else {
+    let Some(part) = under(query, path, i, area, tree) else {
         return total;
     };
     sum_over(query, path, i + 1, area, part, total)

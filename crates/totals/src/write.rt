@@ -5,17 +5,18 @@ ghost use Rattle.totals.specs.Exact.{Sound};
 ghost use Rattle.totals.specs.Write.{WroteTotal};
 
 use crate::exact::{Total, bits};
+use areas::area::TooLarge;
 use areas::span::Span;
 use bare::integer::put_integer;
-use data::value::{Value, value_of};
 
 /// What the total, which fits, places.
-pub fn write_total(work: &mut [u8], total: Total, room: Span) -> Value
+pub fn write_total(work: &mut [u8], total: Total, room: Span) -> Result<Option<usize>, TooLarge>
     requires { Sound total × (room.from ≤ room.to) × (room.to ≤ length work.old) × (length work.old ≤ work_min) }
     ensures { WroteTotal work.old work.new room total result }
 {
     if total.count == 0 {
-        return Value::Absent;
+        return Ok(None);
     }
-    value_of(put_integer(work, bits(total), room))
+    let end = put_integer(work, bits(total), room)?;
+    Ok(Some(end))
 }

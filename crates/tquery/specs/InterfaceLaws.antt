@@ -1,18 +1,16 @@
 -- Number and length are recovered from an answer of the C interface, which fits 64 bits.
-use Rattle.std.specs.Prelude.{◌≡◌, List, ℕ, ◌+◌, ◌*◌, ◌≤◌}
+use Rattle.std.specs.Prelude.{◌≡◌, List, ℕ, ◌+◌, ◌*◌, ◌≤◌, Result, Ok, Err}
 use Rattle.std.proofs.Common.{ap, ◌∙◌, arith}
 use Rattle.spec_trees.specs.Limits.{array_max}
 use Rattle.spec_trees.specs.Readers.{Tested}
 use Rattle.format.specs.Check.{check_of}
-use Rattle.format.specs.declared.check.Check.{Check}
-use Rattle.format.specs.declared.check.Check.TheVariants as check
+use Rattle.format.specs.declared.check.Fault.{Fault}
+use Rattle.format.specs.declared.check.Fault.TheVariants.{Overlong, Malformed}
 use Rattle.spec_run.specs.declared.answer.Refusal.{Refusal}
-use Rattle.spec_run.specs.declared.answer.Answer.{Answer}
-use Rattle.spec_run.specs.declared.answer.Answer.TheVariants.{Accepted, Refused}
 use Rattle.spec_run.specs.Refusal.{number_of}
 use Rattle.spec_run.specs.Run.{Outcome, check_number}
 use Rattle.spec_run.proofs.RunLaws.{refusal_number, refusal_most, Short}
-use Rattle.spec_run.specs.Answer.{numbered}
+use Rattle.spec_run.specs.Answer.{numbered, Answer}
 use Rattle.spec_run.specs.AnswerLaws.{AnsweredBy}
 use Rattle.checks.specs.Check.{checked_as}
 use Rattle.checks.specs.CheckLaws.{checked_number}
@@ -20,8 +18,8 @@ use Rattle.tquery.specs.Interface.{number_from, length_from}
 
 -- ---- an answer in one number: at most 13, which is a message's alone
 pub packed_most : (a : Answer) → numbered a ≤ 13
-packed_most (Accepted n) = omega arith
-packed_most (Refused r) = (refusal_most r).1
+packed_most (Ok n) = omega arith
+packed_most (Err r) = (refusal_most r).1
 
 pub packed_small : (a : Answer) → (numbered a ≡ 13 → ⊥) → numbered a ≤ 12
 packed_small a o = omega (arith, packed_most a, o)
@@ -52,13 +50,13 @@ module _ {lent : List ℕ} {o : Outcome} {n l : ℕ} {left work : List ℕ} (s :
   answered_one z = small_one (omega (arith, s.number)) s.array h z
 
 -- ---- a check's answer
-pub check_small : (c : Check) (r s : Refusal) → (number_of r ≡ 13 → ⊥) → (number_of s ≡ 13 → ⊥) → checked_as c r s ≤ 12
-check_small check.Accepted r s o p = omega arith
-check_small check.Overlong r s o p = (refusal_number r o).1
-check_small check.Malformed r s o p = (refusal_number s p).1
+pub check_small : (c : Result Unit Fault) (r s : Refusal) → (number_of r ≡ 13 → ⊥) → (number_of s ≡ 13 → ⊥) → checked_as c r s ≤ 12
+check_small (Ok _) r s o p = omega arith
+check_small (Err Overlong) r s o p = (refusal_number r o).1
+check_small (Err Malformed) r s o p = (refusal_number s p).1
 
 -- a check c of x, whose number the code has as n
-module _ {A : Type 0} (x : Tested A) (r s : Refusal) {c : Check} {n : ℕ} (z : c ≡ check_of x) (y : n ≡ checked_as c r s) where
+module _ {A : Type 0} (x : Tested A) (r s : Refusal) {c : Result Unit Fault} {n : ℕ} (z : c ≡ check_of x) (y : n ≡ checked_as c r s) where
   pub check_most : (number_of r ≡ 13 → ⊥) → (number_of s ≡ 13 → ⊥) → n ≤ 12
   check_most o p = omega (arith, y, check_small c r s o p)
 

@@ -1,8 +1,7 @@
 -- What the program answers, and what it lends.
 use Rattle.std.specs.Prelude.{◌≡◌, List, ℕ, ◌+◌, ◌*◌, ◌≤◌, length, replicate}
 use Rattle.spec_trees.specs.Limits.{array_max, work_min, positions_min}
-use Rattle.spec_run.specs.declared.answer.Answer.{Answer}
-use Rattle.spec_run.specs.Answer.{numbered, lengthened}
+use Rattle.spec_run.specs.Answer.{numbered, lengthened, Answer}
 use Rattle.spec_run.specs.Run.{Outcome}
 use Rattle.spec_run.specs.Program.{program_max, shown}
 use Rattle.tquery_cli.specs.Text.{Begins}

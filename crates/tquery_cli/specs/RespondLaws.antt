@@ -1,15 +1,13 @@
 -- Laws of the program's answer: its text, the room for it, and the pieces of the input.
-use Rattle.std.specs.Prelude.{◌≡◌, List, ℕ, ◌+◌, ◌*◌, ◌-◌, ◌≤◌, ◌<◌, length, take, drop, replicate}
+use Rattle.std.specs.Prelude.{◌≡◌, List, ℕ, ◌+◌, ◌*◌, ◌-◌, ◌≤◌, ◌<◌, length, take, drop, replicate, Ok, Err}
 use Rattle.std.proofs.Math.Path.{refl, sym, ap}
 use Rattle.std.proofs.Common.{subst, ◌∙◌, arith, length-take, length-take-le, take_all}
 use Rattle.std.proofs.lemmas.List.{length-replicate}
 use borrow.Author.Tests.{ne_eqb}
 use Rattle.spec_trees.specs.Limits.{array_max, work_min, positions_min}
-use Rattle.spec_run.specs.declared.answer.Answer.{Answer}
-use Rattle.spec_run.specs.declared.answer.Answer.TheVariants.{Accepted, Refused}
 use Rattle.spec_run.specs.declared.answer.Refusal.{Refusal}
 use Rattle.spec_run.specs.Refusal.{number_of}
-use Rattle.spec_run.specs.Answer.{numbered, lengthened, Answered}
+use Rattle.spec_run.specs.Answer.{numbered, lengthened, Answered, Answer}
 use Rattle.spec_run.specs.Run.{Call, call, plain_run}
 use Rattle.spec_run.proofs.RunLaws.{refusal_most, run_short}
 use Rattle.spec_run.specs.Program.{hex, refused_text, shown, answered, program, program_max}
@@ -24,13 +22,13 @@ refusal_small f {n} e = omega (arith, (refusal_most f).1)
 
 -- ---- an answer's text
 module _ {a : Answer} {result text : List ℕ} where
-  pub show_length : {n : ℕ} → ShowReady a result text → a ≡ Accepted n → length (take n result) ≡ n
+  pub show_length : {n : ℕ} → ShowReady a result text → a ≡ Ok n → length (take n result) ≡ n
   show_length {n} h e = length-take-le n result (omega (arith, ap lengthened e, h.within))
 
-  pub show_room : {n : ℕ} → ShowReady a result text → a ≡ Accepted n → 2 * length (take n result) + 1 ≤ length text
+  pub show_room : {n : ℕ} → ShowReady a result text → a ≡ Ok n → 2 * length (take n result) + 1 ≤ length text
   show_room {n} h e = omega (arith, show_length h e, ap lengthened e, h.room)
 
-  pub show_result : {n r : ℕ} → a ≡ Accepted n → Begins text (hex (take n result)) r → ShowsAnswer a result text r
+  pub show_result : {n r : ℕ} → a ≡ Ok n → Begins text (hex (take n result)) r → ShowsAnswer a result text r
   unfolding shown
   show_result {n} {r} e b = record {
     shows = λ o hn hl hr.
@@ -39,7 +37,7 @@ module _ {a : Answer} {result text : List ℕ} where
         rw (z, l, sym hr) b;
   }
 
-  pub show_refusal : {f : Refusal} {n r : ℕ} → a ≡ Refused f → n ≡ number_of f → Begins text (refused_text n) r → ShowsAnswer a result text r
+  pub show_refusal : {f : Refusal} {n r : ℕ} → a ≡ Err f → n ≡ number_of f → Begins text (refused_text n) r → ShowsAnswer a result text r
   unfolding shown
   show_refusal {f} {n} {r} e g b = record {
     shows = λ o hn hl hr.

@@ -3,8 +3,7 @@ use Rattle.std.specs.Prelude.{◌≡◌, refl, List, [], ◌∷◌, ◌++◌, �
 use Rattle.std.proofs.Common.{sym, ap, ◌∙◌, append_assoc, arith, length-set, drop-cons}
 use Rattle.std.proofs.Math.Seq.{drop-length}
 use Rattle.spec_trees.specs.OptionLaws.{ltb_yes, ltb_no}
-use Rattle.areas.specs.declared.area.Out.{Out}
-use Rattle.areas.specs.Area.{Wrote}
+use Rattle.areas.specs.Area.{Wrote, Out}
 use Rattle.areas.specs.AreaLaws.{told}
 use Rattle.spec_run.specs.Program.{digit, hex, decimal, refused_text}
 use Rattle.tquery_cli.specs.Text.{Begins}

@@ -20,8 +20,8 @@ fn write_answer(answer: Answer, res: &[u8], text: &mut [u8]) -> usize
     ensures { ShowsAnswer answer res.now text.new result }
 {
     match answer {
-        Answer::Accepted(n) => write_hex(text, &res[..n]),
-        Answer::Refused(r) => write_refused(text, refusal_number(r)),
+        Ok(n) => write_hex(text, &res[..n]),
+        Err(r) => write_refused(text, refusal_number(r)),
     }
 }
 

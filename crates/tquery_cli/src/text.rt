@@ -21,14 +21,13 @@ pub fn write_hex(text: &mut [u8], bytes: &[u8]) -> usize
     requires { 2 * length bytes.now + 1 ≤ length text.old }
     ensures { Begins text.new (hex bytes.now) result }
 {
-    let mut i = 0;
-    while i < bytes.len() {
-        text[2 * i] = hex_digit(bytes[i] / 16);
-        text[2 * i + 1] = hex_digit(bytes[i] % 16);
-        i += 1;
+    for (i, byte) in bytes.iter().enumerate() {
+        text[2 * i] = hex_digit(byte / 16);
+        text[2 * i + 1] = hex_digit(byte % 16);
     }
-    text[2 * i] = b'\n';
-    2 * i + 1
+    let end = 2 * bytes.len();
+    text[end] = b'\n';
+    end + 1
 }
 
 /// Writes a number below 100 in decimal at `at`: where it ends.
@@ -50,7 +49,7 @@ pub fn write_refused(text: &mut [u8], number: u64) -> usize
     requires { (11 ≤ length text.old) × (number < 100) }
     ensures { Begins text.new (refused_text number) result }
 {
-    emit(text, 0, b"refused ");
+    let _ = emit(text, 0, b"refused ");
     let e = write_decimal(text, 8, number);
     text[e] = b'\n';
     e + 1

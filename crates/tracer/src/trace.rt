@@ -1,32 +1,24 @@
 //! A tracer's message as an array of one tree, in areas that the caller lends. It needs nothing of them: any bytes and
 //! any lengths are answered.
-ghost use Rattle.std.specs.Prelude.{◌≡◌, ◌⊎◌, ◌≤◌};
 ghost use Rattle.spec_run.specs.Answer.{numbered, lengthened, Traced};
 ghost use Rattle.tracer.specs.Trace.{EndsAs};
 
-use areas::area::{Out, clear};
+use areas::area::{TooLarge, clear};
 use format::limits::Limits;
 use spec_run::answer::{Answer, Refusal};
 use tracer_lines::limits::MessageLimits;
 use tracer_lines::places::read_lines;
 use tracer_tree::array::write_array;
 
-/// The lesser of two lengths.
-fn least(one: usize, other: usize) -> usize
-    ensures { (result ≤ one) × (result ≤ other) × ((result ≡ one) ⊎ (result ≡ other)) }
-{
-    if one < other { one } else { other }
-}
-
 /// The end of a call whose message is in form: its array was written, or it has no room in the area, which is cleared.
-fn end_trace(res: &mut [u8], written: Out) -> Answer
+fn end_trace(res: &mut [u8], written: Result<usize, TooLarge>) -> Answer
     ensures { EndsAs written res.old res.new result }
 {
-    let Out::At(end) = written else {
+    let Ok(end) = written else {
         clear(res);
-        return Answer::Refused(Refusal::ResultLong);
+        return Err(Refusal::ResultLong);
     };
-    Answer::Accepted(end)
+    Ok(end)
 }
 
 /// Traces a message. Its number, its length and the whole content of the result area are the plain answer to this
@@ -36,13 +28,13 @@ pub fn trace(message: &[u8], res: &mut [u8]) -> Answer
     ensures { Traced message.now res.old (numbered result) (lengthened result) res.new }
 {
     if MessageLimits::MESSAGE < message.len() {
-        return Answer::Refused(Refusal::MessageMalformed);
+        return Err(Refusal::MessageMalformed);
     }
-    let mut places = [0usize; 8];
+    let mut places = [None; 8];
     if !read_lines(message, &mut places) {
-        return Answer::Refused(Refusal::MessageMalformed);
+        return Err(Refusal::MessageMalformed);
     }
-    let room = least(res.len(), Limits::TREE);
+    let room = res.len().min(Limits::TREE);
     let written = write_array(&mut res[..room], message, &places);
     end_trace(res, written)
 }

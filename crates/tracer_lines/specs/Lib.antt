@@ -9,3 +9,4 @@ pub mod PieceLaws
 pub mod LabelLaws
 pub mod LineLaws
 pub mod PlacesLaws
+pub mod PieceStepLaws

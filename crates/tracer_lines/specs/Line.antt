@@ -1,13 +1,10 @@
 -- What the readers of a line say.
-use Rattle.std.specs.Prelude.{◌≡◌, List, Bool, not, ◌&&◌, ℕ, ◌+◌, ◌-◌, ◌≤◌, ◌<◌, length, drop, get_or, eqb, leb}
+use Rattle.std.specs.Prelude.{◌≡◌, List, Bool, not, ◌&&◌, ℕ, ◌+◌, ◌-◌, ◌≤◌, ◌<◌, length, drop, get_or, eqb, leb, Option, Some, None}
 use Rattle.std.proofs.Math.Option.{none, some}
 use Rattle.spec_tracer.specs.Limits.{name_max}
 use Rattle.spec_tracer.specs.Message.{is_capital}
 use Rattle.spec_tracer.specs.Reading.{values, line}
-use Rattle.tracer_lines.specs.declared.line.End.{End}
-use Rattle.tracer_lines.specs.declared.line.End.TheVariants as end
 use Rattle.tracer_lines.specs.declared.line.Line.{Line}
-use Rattle.tracer_lines.specs.declared.line.Line.TheVariants as line_is
 use Rattle.tracer_lines.specs.Piece.{part}
 use Rattle.tracer_lines.specs.Label.{NameAt}
 
@@ -22,9 +19,9 @@ pub record ValuesAt (m : List ℕ) (from e : ℕ) : Type 0 where
   pub above : from ≤ e
   pub inside : e ≤ length m
 
-pub record ValuesEnd (m : List ℕ) (from : ℕ) (r : End) : Type 0 where
-  pub at : (e : ℕ) → r ≡ end.At e → ValuesAt m from e
-  pub malformed : r ≡ end.Malformed → values (drop from m) ≡ none
+pub record ValuesEnd (m : List ℕ) (from : ℕ) (r : Option ℕ) : Type 0 where
+  pub at : (e : ℕ) → r ≡ Some e → ValuesAt m from e
+  pub malformed : r ≡ None → values (drop from m) ≡ none
 
 -- a line from a place on: its name ends at n, its values begin behind the byte there, and the next line begins at `next`
 pub record LineAt (m : List ℕ) (from n next : ℕ) : Type 0 where
@@ -36,6 +33,6 @@ pub record LineAt (m : List ℕ) (from n next : ℕ) : Type 0 where
   pub behind : n < next
   pub inside : next ≤ length m
 
-pub record LineRead (m : List ℕ) (from : ℕ) (r : Line) : Type 0 where
-  pub at : (n next : ℕ) → r ≡ line_is.Read n next → LineAt m from n next
-  pub malformed : r ≡ line_is.Malformed → line (drop from m) ≡ none
+pub record LineRead (m : List ℕ) (from : ℕ) (r : Option Line) : Type 0 where
+  pub at : (l : Line) → r ≡ Some l → LineAt m from l.name l.next
+  pub malformed : r ≡ None → line (drop from m) ≡ none

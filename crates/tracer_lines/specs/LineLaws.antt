@@ -1,5 +1,5 @@
 -- Laws of reading a line.
-use Rattle.std.specs.Prelude.{◌≡◌, List, [], ◌∷◌, Bool, ◌&&◌, ℕ, ◌+◌, ◌-◌, ◌≤◌, ◌<◌, get_or, ltb}
+use Rattle.std.specs.Prelude.{◌≡◌, List, [], ◌∷◌, Bool, ◌&&◌, ℕ, ◌+◌, ◌-◌, ◌≤◌, ◌<◌, get_or, ltb, Option, Some, None}
 use Rattle.std.proofs.Math.Path.{refl, sym}
 use Rattle.std.proofs.Common.{ap, subst, ◌∙◌}
 use Rattle.std.proofs.Math.Bool.{true, false, not}
@@ -11,12 +11,10 @@ use borrow.Author.Tests.{leb-true, ltb-true, leb-false, ltb-false, eqb-true, eqb
 use Rattle.spec_trees.specs.Options.{◌>>=◌, only}
 use Rattle.spec_trees.specs.OptionLaws.{both_true, split, apart, leb_yes, leb_no}
 use Rattle.spec_tracer.specs.Limits.{name_max, value_max}
-use Rattle.spec_tracer.specs.Message.{equals, semicolon, carriage_return, line_feed, is_capital, is_name_byte, is_value_byte, begins, front, behind}
+use Rattle.spec_tracer.specs.Message.{equals, semicolon, carriage_return, line_feed, is_capital, is_name_byte, is_value_byte, begins, front}
 use Rattle.spec_tracer.specs.Reading.{expect, name, value, second, values, line}
 use Rattle.spec_tracer.specs.LineLaws.{value_read, value_long, name_read, name_small, name_long}
-use Rattle.tracer_lines.specs.declared.line.End.{End}
-use Rattle.tracer_lines.specs.declared.line.End.TheVariants as end
-use Rattle.tracer_lines.specs.declared.line.Line.TheVariants as line_is
+use Rattle.tracer_lines.specs.declared.line.Line.{Line}
 use Rattle.tracer_lines.specs.Piece.{part, piece_end, stands_at}
 use Rattle.tracer_lines.specs.Label.{NameAt}
 use Rattle.tracer_lines.specs.Line.{is_name_at, ValuesAt, ValuesEnd, LineAt, LineRead}
@@ -64,20 +62,20 @@ unfolding second begins
 second_none v [] q = refl
 second_none v (x ∷ l) q = rw q refl
 
-pub values_malformed : {m : List ℕ} {from : ℕ} → values (drop from m) ≡ none → ValuesEnd m from end.Malformed
+pub values_malformed : {m : List ℕ} {from : ℕ} → values (drop from m) ≡ none → ValuesEnd m from None
 values_malformed h = record {
   at = λ e q. let z : ◌≡◌ {A = ℕ} 0 1 = cc in absurd (omega arith);
   malformed = λ q. h;
 }
 
-values_at : {m : List ℕ} {from e : ℕ} → ValuesAt m from e → ValuesEnd m from (end.At e)
+values_at : {m : List ℕ} {from e : ℕ} → ValuesAt m from e → ValuesEnd m from (Some e)
 values_at {m} {from} {e} h = record {
   at = λ f q. let z : e ≡ f = cc in subst (ValuesAt m from) z h;
   malformed = λ q. let z : ◌≡◌ {A = ℕ} 0 1 = cc in absurd (omega arith);
 }
 
 module _ (m : List ℕ) (from : ℕ) {to : ℕ} (b : from ≤ length m) (z : to ≡ piece_end is_value_byte m from) where
-  pub first_long : value_max < to - from → ValuesEnd m from end.Malformed
+  pub first_long : value_max < to - from → ValuesEnd m from None
   unfolding values ◌>>=◌
   first_long h = values_malformed (rw (value_over m from b z h) refl)
 
@@ -86,7 +84,7 @@ module _ (m : List ℕ) (from : ℕ) {to : ℕ} (b : from ≤ length m) (z : to 
     unfolding values ◌>>=◌
     values_second = rw (value_at m from b z h) refl
 
-    pub first_alone : stands_at m to semicolon ≡ false → ValuesEnd m from (end.At to)
+    pub first_alone : stands_at m to semicolon ≡ false → ValuesEnd m from (Some to)
     unfolding stands_at
     first_alone e = values_at record {
       given = part from to m ∷ [];
@@ -99,12 +97,12 @@ module _ (m : List ℕ) (from : ℕ) {to : ℕ} (b : from ≤ length m) (z : to 
       pub second_inside : to + 1 ≤ length m
       second_inside = omega (arith, stands_inside m to semicolon e)
 
-      pub second_long : value_max < last - (to + 1) → ValuesEnd m from end.Malformed
+      pub second_long : value_max < last - (to + 1) → ValuesEnd m from None
       unfolding second
       second_long l = values_malformed
           (values_second ∙ rw (here m to (stands_inside m to semicolon e), stands_byte m to semicolon e, value_over m (to + 1) second_inside y l) refl)
 
-      pub second_at : last - (to + 1) ≤ value_max → ValuesEnd m from (end.At last)
+      pub second_at : last - (to + 1) ≤ value_max → ValuesEnd m from (Some last)
       unfolding second
       second_at l = values_at record {
         given = part from to m ∷ part (to + 1) last m ∷ [];
@@ -172,25 +170,28 @@ module _ (m : List ℕ) (from : ℕ) {to : ℕ} (b : from ≤ length m) (z : to 
       (λ k. name_long (drop from m) (omega (arith, piece_length is_name_byte m from b z, leb-false (to - from) name_max k))))
 
 -- ---- the line
-line_refused : {m : List ℕ} {from : ℕ} → line (drop from m) ≡ none → LineRead m from line_is.Malformed
+abbrev line_of : ℕ → ℕ → Line
+line_of n next = record { name = n; next = next }
+
+line_refused : {m : List ℕ} {from : ℕ} → line (drop from m) ≡ none → LineRead m from None
 line_refused h = record {
-  at = λ n next q. let z : ◌≡◌ {A = ℕ} 0 1 = cc in absurd (omega arith);
+  at = λ l q. let z : ◌≡◌ {A = ℕ} 0 1 = cc in absurd (omega arith);
   malformed = λ q. h;
 }
 
-line_read : {m : List ℕ} {from n next : ℕ} → LineAt m from n next → LineRead m from (line_is.Read n next)
+line_read : {m : List ℕ} {from n next : ℕ} → LineAt m from n next → LineRead m from (Some (line_of n next))
 line_read {m} {from} {n} {next} h = record {
-  at = λ a b q. let x : n ≡ a = cc in let y : next ≡ b = cc in subst (λ i. LineAt m from i b) x (subst (λ i. LineAt m from n i) y h);
+  at = λ l q. let z : line_of n next ≡ l = cc in subst (λ i. LineAt m from i.name i.next) z h;
   malformed = λ q. let z : ◌≡◌ {A = ℕ} 0 1 = cc in absurd (omega arith);
 }
 
 module _ (m : List ℕ) (from : ℕ) {to : ℕ} (b : from ≤ length m) (z : to ≡ piece_end is_name_byte m from) where
-  pub line_nameless : is_name_at m from to ≡ false → LineRead m from line_is.Malformed
+  pub line_nameless : is_name_at m from to ≡ false → LineRead m from None
   unfolding line ◌>>=◌
   line_nameless e = line_refused (rw (name_missing m from b z e) refl)
 
   module _ (e : is_name_at m from to ≡ true) where
-    pub line_unequal : stands_at m to equals ≡ false → LineRead m from line_is.Malformed
+    pub line_unequal : stands_at m to equals ≡ false → LineRead m from None
     unfolding line ◌>>=◌
     line_unequal f = line_refused (rw (name_at m from b z e, expect_missing m to equals f) refl)
 
@@ -198,21 +199,21 @@ module _ (m : List ℕ) (from : ℕ) {to : ℕ} (b : from ≤ length m) (z : to 
       pub values_inside : to + 1 ≤ length m
       values_inside = omega (arith, stands_inside m to equals f)
 
-      pub line_valueless : {r : End} → ValuesEnd m (to + 1) r → r ≡ end.Malformed → LineRead m from line_is.Malformed
+      pub line_valueless : {r : Option ℕ} → ValuesEnd m (to + 1) r → r ≡ None → LineRead m from None
       unfolding line ◌>>=◌
       line_valueless v q = line_refused (rw (name_at m from b z e, expect_here m to equals f, v.malformed q) refl)
 
       module _ {last : ℕ} (v : ValuesAt m (to + 1) last) where
-        pub line_unended : stands_at m last carriage_return ≡ false → LineRead m from line_is.Malformed
+        pub line_unended : stands_at m last carriage_return ≡ false → LineRead m from None
         unfolding line ◌>>=◌
         line_unended g = line_refused (rw (name_at m from b z e, expect_here m to equals f, v.read, expect_missing m last carriage_return g) refl)
 
-        pub line_half : stands_at m last carriage_return ≡ true → stands_at m (last + 1) line_feed ≡ false → LineRead m from line_is.Malformed
+        pub line_half : stands_at m last carriage_return ≡ true → stands_at m (last + 1) line_feed ≡ false → LineRead m from None
         unfolding line ◌>>=◌
         line_half g h = line_refused
             (rw (name_at m from b z e, expect_here m to equals f, v.read, expect_here m last carriage_return g, expect_missing m (last + 1) line_feed h) refl)
 
-        pub line_whole : stands_at m last carriage_return ≡ true → stands_at m (last + 1) line_feed ≡ true → LineRead m from (line_is.Read to (last + 2))
+        pub line_whole : stands_at m last carriage_return ≡ true → stands_at m (last + 1) line_feed ≡ true → LineRead m from (Some (line_of to (last + 2)))
         unfolding line ◌>>=◌
         line_whole g h =
             let y : last + 1 + 1 ≡ last + 2 = omega arith in

@@ -1,11 +1,14 @@
 -- Laws of pieces and parts.
-use Rattle.std.specs.Prelude.{◌≡◌, refl, List, [], ◌∷◌, ◌++◌, Bool, true, false, not, ℕ, suc, ◌+◌, ◌-◌, ◌≤◌, ◌<◌, length, take, drop, get_or, eqb, ltb}
-use Rattle.std.proofs.Common.{sym, ap, ◌∙◌, add-one, add-zero, arith, length-drop, drop_of_length-le, drop-cons, drop-drop, take-suc, get_or-drop}
-use Rattle.std.proofs.Math.Seq.{take-append_seam, drop-append_seam}
+use Rattle.std.specs.Prelude.{◌≡◌, refl, List, [], ◌∷◌, Bool, true, false, cond, not, ℕ, suc, ◌+◌, ◌-◌, ◌≤◌, ◌<◌, length, take, drop, get_or, eqb, ltb, Option, Some, None, is_some, unwrap_or, option_map, take_while}
+use Rattle.std.specs.Option.{option_eq}
+use Rattle.std.proofs.lemmas.List.Sums.{take_while-cons}
+use Rattle.std.proofs.Common.{sym, ap, ◌∙◌, add-one, arith, length-drop, drop_of_length-le, drop-cons, drop-drop}
+use Rattle.std.proofs.Math.Seq.{take-length, take-append_seam, drop-append_seam}
 use Rattle.spec_trees.specs.Lists.{all}
-use Rattle.spec_trees.specs.OptionLaws.{ltb_no, leb_yes, leb_no}
+use borrow.Author.Tests.{ltb-true, ltb-false}
+use Rattle.spec_trees.specs.OptionLaws.{leb_yes, leb_no}
 use Rattle.spec_tracer.specs.Message.{semicolon, is_capital, is_digit, is_name_byte, is_value_byte, begins, front, behind}
-use Rattle.spec_tracer.specs.FrontLaws.{front_more, front_stop, front_behind, front_all, front_length}
+use Rattle.spec_tracer.specs.FrontLaws.{front_behind, front_all, front_length}
 use Rattle.tracer_lines.specs.Piece.{part, piece_end, stands_at}
 
 -- ---- kinds of bytes, test by test
@@ -31,22 +34,23 @@ value_between b h k = rw (leb_yes 32 b h, leb_yes b 126 k) refl
 
 -- ---- pieces
 
+-- the bytes up to the first that does not pass are those that an iterator takes
+front_taken : (f : ℕ → Bool) (m : List ℕ) → take_while f m ≡ front f m
+unfolding front
+front_taken f [] = refl
+front_taken f (b ∷ m) = take_while-cons f b m ∙ ap (λ l. cond (f b) (b ∷ l) []) (front_taken f m)
+
+pub part_rest : (s : List ℕ) (from : ℕ) → part from (length s) s ≡ drop from s
+part_rest s from = ap (λ k. take k (drop from s)) (sym (length-drop from s)) ∙ take-length (drop from s)
+
+pub piece_counted : (f : ℕ → Bool) (s : List ℕ) (from : ℕ) {n : ℕ} → n ≡ length (take_while f (part from (length s) s)) → from + n ≡ piece_end f s from
+unfolding piece_end
+piece_counted f s from {n} e =
+    ap (λ k. from + k) (e ∙ ap length (front_taken f (part from (length s) s) ∙ ap (front f) (part_rest s from)))
+
 -- the byte that stands at a place, and what is behind it
 pub here : (s : List ℕ) (at : ℕ) → at < length s → drop at s ≡ get_or s at 0 ∷ drop (at + 1) s
 here s at h = drop-cons s at 0 h ∙ ap (λ n. get_or s at 0 ∷ drop n s) (sym (add-one at))
-
-module _ (f : ℕ → Bool) (s : List ℕ) (at : ℕ) where
-  pub piece_over : (at < length s → ⊥) → piece_end f s at ≡ at
-  unfolding piece_end front
-  piece_over h = rw (drop_of_length-le s {i = at} (omega (arith, h))) (add-zero at)
-
-  pub piece_stop : at < length s → f (get_or s at 0) ≡ false → piece_end f s at ≡ at
-  unfolding piece_end
-  piece_stop h e = rw (here s at h, (front_stop f (get_or s at 0) (drop (at + 1) s) e).0) (add-zero at)
-
-  pub piece_more : at < length s → f (get_or s at 0) ≡ true → piece_end f s at ≡ piece_end f s (at + 1)
-  unfolding piece_end
-  piece_more h e = rw (here s at h, (front_more f (get_or s at 0) (drop (at + 1) s) e).0) (omega arith)
 
 -- ---- the piece by its places
 module _ (f : ℕ → Bool) (s : List ℕ) (from : ℕ) {to : ℕ} (b : from ≤ length s) (z : to ≡ piece_end f s from) where
@@ -77,27 +81,23 @@ module _ (f : ℕ → Bool) (s : List ℕ) (from : ℕ) {to : ℕ} (b : from ≤
   pub piece_all : all f (part from to s) ≡ true
   piece_all = sym (ap (all f) piece_front) ∙ front_all f (drop from s)
 
--- ---- parts that grow by a byte
-pub part_none : (s : List ℕ) (at : ℕ) → part at at s ≡ []
-part_none s at = let z : at - at ≡ 0 = omega arith in rw z refl
-
-pub part_more : (s : List ℕ) (from at : ℕ) → from ≤ at → at < length s → part from (at + 1) s ≡ part from at s ++ (get_or s at 0 ∷ [])
-part_more s from at a b =
-    let y : at + 1 - from ≡ suc (at - from) = omega (arith, a) in
-    let z : from + (at - from) ≡ at = omega (arith, a) in
-    ap (λ n. take n (drop from s)) y ∙ take-suc (drop from s) (at - from) 0 (omega (arith, length-drop from s))
-    ∙ ap (λ x. part from at s ++ (x ∷ [])) (get_or-drop from s (at - from) 0 ∙ ap (λ n. get_or s n 0) z)
-
+-- ---- a part byte by byte
 pub part_first : (s : List ℕ) (from to : ℕ) → from < to → to ≤ length s → part from to s ≡ get_or s from 0 ∷ part (from + 1) to s
 part_first s from to a b =
     let y : to - from ≡ suc (to - (from + 1)) = omega (arith, a) in
     rw (here s from (omega (arith, a, b)), y) refl
 
 -- ---- a byte that stands there
-pub stands_here : (s : List ℕ) (at x : ℕ) → at < length s → eqb (get_or s at 0) x ≡ stands_at s at x
+stands_here : (s : List ℕ) (at x : ℕ) → at < length s → eqb (get_or s at 0) x ≡ stands_at s at x
 unfolding stands_at begins
 stands_here s at x h = sym (ap (begins (λ b. eqb b x)) (here s at h))
 
-pub stands_beyond : (s : List ℕ) (at x : ℕ) → length s ≤ at → ltb at (length s) ≡ stands_at s at x
+stands_beyond : (s : List ℕ) (at x : ℕ) → length s ≤ at → false ≡ stands_at s at x
 unfolding stands_at begins
-stands_beyond s at x h = ltb_no at (length s) h ∙ sym (ap (begins (λ b. eqb b x)) (drop_of_length-le s {i = at} h))
+stands_beyond s at x h = sym (ap (begins (λ b. eqb b x)) (drop_of_length-le s {i = at} h))
+
+-- what was looked up there, each value as v reads it, is this byte
+pub stands_got : {A : Type 0} (s : List ℕ) (at : ℕ) (v : A → ℕ) (o : Option A) (y : A) → is_some o ≡ ltb at (length s)
+    → unwrap_or (option_map v o) 0 ≡ get_or s at 0 → option_eq (λ a b. eqb (v a) (v b)) o (Some y) ≡ stands_at s at (v y)
+stands_got s at v None y h e = stands_beyond s at (v y) (ltb-false at (length s) (sym h))
+stands_got s at v (Some a) y h e = ap (λ b. eqb b (v y)) e ∙ stands_here s at (v y) (ltb-true at (length s) (sym h))

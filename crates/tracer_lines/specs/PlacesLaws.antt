@@ -1,21 +1,22 @@
 -- Laws of the places of values: line by line, as the message is read.
 use Rattle.std.proofs.Math.Path.{◌≡◌, ap}
-use Rattle.std.specs.Prelude.{refl, List, [], ◌∷◌, ◌++◌, Bool, true, false, not, ◌&&◌, ℕ, zero, suc, ◌+◌, ◌≤◌, ◌<◌, drop, get_or, set, replicate, eqb, leb}
+use Rattle.std.specs.Prelude.{refl, List, [], ◌∷◌, ◌++◌, Bool, true, false, ◌&&◌, ℕ, zero, suc, ◌+◌, ◌≤◌, ◌<◌, drop, get_or, set, replicate, eqb, leb, Some, None, is_some, IfSome}
 use Rattle.std.proofs.Common.{sym, subst, ◌∙◌, append_assoc, append-nil, arith, length-set, length-drop, drop_of_length-le, get_or-set_same, get_or-set_other, ne_eqb, eq-eqb, eqb-true}
 use Rattle.std.proofs.Math.Option.{Option, none, some, map}
 use Rattle.std.proofs.Math.ListN.{length}
 use Rattle.std.proofs.lemmas.List.{length-replicate, get_or-replicate}
-use Rattle.std.proofs.lemmas.Bool.{eqb-false, not-true, not-false}
-use Rattle.spec_trees.specs.OptionLaws.{split, both_true, map_some, leb_yes, leb_no}
+use Rattle.std.proofs.lemmas.Bool.{eqb-false}
+use Rattle.spec_trees.specs.OptionLaws.{split, apart, map_some, leb_yes, leb_no}
 use Rattle.spec_trees.specs.Lists.{filter}
 use Rattle.spec_trees.specs.FilterLaws.{filter_append}
 use Rattle.spec_tracer.specs.Message.{Line}
-use Rattle.spec_tracer.specs.Reading.{message, line}
+use Rattle.spec_tracer.specs.Reading.{values, message, line}
 use Rattle.spec_tracer.specs.Traced.{label_named, lines_for, once_from, once}
 use Rattle.spec_tracer.specs.MessageLaws.{before, message_none, message_next, message_refused}
 use Rattle.tracer_lines.specs.Piece.{part}
+use Rattle.tracer_lines.specs.Label.{label_of}
 use Rattle.tracer_lines.specs.Line.{LineAt}
-use Rattle.tracer_lines.specs.Places.{is_second, PlaceIs, ReadsLines, Reading}
+use Rattle.tracer_lines.specs.Places.{Place, PlaceIs, is_second, noted, ReadsLines, Reading}
 
 -- ---- the lines of a label, with one more
 for_append : (k : ℕ) (a b : List Line) → lines_for k (a ++ b) ≡ lines_for k a ++ lines_for k b
@@ -55,44 +56,35 @@ twice_from k (suc n) j ls a b h = split (eqb k j)
     either false = refl
 
 -- ---- a second line
-pub second_none : (k a : ℕ) → k ≡ 0 → false ≡ is_second k a
-unfolding is_second
-second_none k a e = rw (eq-eqb k 0 e) refl
+second_label : (p : Place) → is_some p ≡ true → (a : ℕ) × (p ≡ Some a)
+second_label None e = apart e refl
+second_label (Some a) e = (a, refl)
 
-pub second_some : (k a : ℕ) → (k ≡ 0 → ⊥) → not (eqb a 0) ≡ is_second k a
-unfolding is_second
-second_some k a e = rw (ne_eqb k 0 e) refl
-
-second_label : (k a : ℕ) → is_second k a ≡ true → (k ≡ 0 → ⊥) × (a ≡ 0 → ⊥)
-unfolding is_second
-second_label k a e =
-    let p = both_true (not (eqb k 0)) (not (eqb a 0)) e in
-    (eqb-false k 0 (not-true (eqb k 0) p.0), eqb-false a 0 (not-true (eqb a 0) p.1))
-
-second_free : (k a : ℕ) → is_second k a ≡ false → (k ≡ 0 → ⊥) → a ≡ 0
-second_free k a e n = eqb-true a 0 (not-false (eqb a 0) (second_some k a n ∙ e))
+second_free : (p : Place) → is_some p ≡ false → p ≡ None
+second_free None e = refl
+second_free (Some a) e = apart refl e
 
 -- ---- at the beginning
 map_none : {A : Type 0} (x : Option (List A)) → x ≡ map (λ ls. [] ++ ls) x
 map_none none = refl
 map_none (some a) = refl
 
-pub reading_begins : (m : List ℕ) {ps : List ℕ} → ps ≡ replicate 8 0 → Reading m 0 ps
+pub reading_begins : (m : List ℕ) {ps : List Place} → ps ≡ replicate 8 None → Reading m 0 ps
 reading_begins m {ps} e = record {
   done = [];
   inside = omega arith;
   rest = map_none (message m);
   places = record {
-    count = ap length e ∙ length-replicate {A = ℕ} 8 0;
+    count = ap length e ∙ length-replicate {A = Place} 8 None;
     each = λ k a b. record {
       missing = λ q. for_none k;
-      there = λ n. absurd (n (ap (λ l. get_or l k 0) e ∙ get_or-replicate {A = ℕ} 8 k 0 0 b));
+      there = λ a q. let z : None ≡ Some a = sym (ap (λ l. get_or l k None) e ∙ get_or-replicate {A = Place} 8 k None None b) ∙ q in cc;
     };
   };
 }
 
 -- ---- a line more
-module _ {m : List ℕ} {at : ℕ} {ps : List ℕ} (h : Reading m at ps) {n next : ℕ} (l : LineAt m at n next) where
+module _ {m : List ℕ} {at : ℕ} {ps : List Place} (h : Reading m at ps) {n next : ℕ} (l : LineAt m at n next) where
   abbrev name : List ℕ
   name = part at n m
 
@@ -108,67 +100,93 @@ module _ {m : List ℕ} {at : ℕ} {ps : List ℕ} (h : Reading m at ps) {n next
       h.rest ∙ ap (map (λ ls. h.done ++ ls)) (message_next (drop at m) (this, drop next m) l.read) ∙ more (message (drop next m))
 
   -- another label's entry says what it said
-  other_place : (k : ℕ) {a : ℕ} → (label_named name ≡ k → ⊥) → PlaceIs m h.done k a → PlaceIs m (h.done ++ (this ∷ [])) k a
-  other_place k {a} z p =
+  other_place : (k : ℕ) {p : Place} → (label_named name ≡ k → ⊥) → PlaceIs m h.done k p → PlaceIs m (h.done ++ (this ∷ [])) k p
+  other_place k z p =
       let same : lines_for k (h.done ++ (this ∷ [])) ≡ lines_for k h.done =
       for_append k h.done (this ∷ []) ∙ ap (λ x. lines_for k h.done ++ x) (for_other k this [] z ∙ for_none k) ∙ append-nil (lines_for k h.done) in
       record {
         missing = λ q. same ∙ p.missing q;
-        there = λ q. let t = p.there q in record { line = t.line; rest = t.rest; alone = same ∙ t.alone; values_are = t.values_are; inside = t.inside };
+        there = λ a q. let t = p.there a q in record { line = t.line; rest = t.rest; alone = same ∙ t.alone; values_are = t.values_are; inside = t.inside };
       }
 
   -- this label's entry is new
-  this_place : (k : ℕ) → label_named name ≡ k → lines_for k h.done ≡ [] → PlaceIs m (h.done ++ (this ∷ [])) k (n + 1)
+  this_place : (k : ℕ) → label_named name ≡ k → lines_for k h.done ≡ [] → PlaceIs m (h.done ++ (this ∷ [])) k (Some (n + 1))
   this_place k z e = record {
-    missing = λ q. absurd (omega (arith, q));
-    there = λ q. record {
+    missing = λ q. cc;
+    there = λ a q. let y : n + 1 ≡ a = cc in record {
       line = this;
       rest = l.rest;
       alone = for_append k h.done (this ∷ []) ∙ ap (λ x. x ++ lines_for k (this ∷ [])) e ∙ for_this k this [] z ∙ ap (λ x. this ∷ x) (for_none k);
-      values_are = l.values_are;
-      inside = omega (arith, l.behind, l.inside);
+      values_are = ap (λ i. values (drop i m)) (sym y) ∙ l.values_are;
+      inside = omega (arith, sym y, l.behind, l.inside);
     };
   }
 
-  module _ {label : ℕ} (z : label ≡ label_named name) (b : label < 8) where
-    pub reading_next : is_second label (get_or ps label 0) ≡ false → Reading m next (set ps label (n + 1))
-    reading_next single = record {
+  -- no label's entry changes
+  reading_nameless : label_named name ≡ 0 → Reading m next ps
+  reading_nameless z = record {
+    done = h.done ++ (this ∷ []);
+    inside = l.inside;
+    rest = rest_more;
+    places = record {
+      count = h.places.count;
+      each = λ k i j. other_place k (λ w. omega (arith, w, z, i)) (h.places.each k i j);
+    };
+  }
+
+  module _ {k : ℕ} (z : label_named name ≡ k) (a : 1 ≤ k) (b : k < 8) where
+    reading_named : get_or ps k None ≡ None → Reading m next (set ps k (Some (n + 1)))
+    reading_named free = record {
       done = h.done ++ (this ∷ []);
       inside = l.inside;
       rest = rest_more;
       places = record {
-        count = length-set ps label (n + 1) ∙ h.places.count;
-        each = λ k i j. split (eqb label k)
-            (λ e. let q = eqb-true label k e in
-            let f : get_or (set ps label (n + 1)) k 0 ≡ n + 1 = ap (λ x. get_or (set ps label (n + 1)) x 0) (sym q) ∙ get_or-set_same ps label (n + 1) 0 (omega (arith, h.places.count, b)) in
-            let g : get_or ps k 0 ≡ 0 = ap (λ x. get_or ps x 0) (sym q) ∙ second_free label (get_or ps label 0) single (λ w. omega (arith, w, q, i)) in
-            subst (PlaceIs m (h.done ++ (this ∷ [])) k) (sym f) (this_place k (sym z ∙ q) ((h.places.each k i j).missing g)))
-            (λ e. let q = eqb-false label k e in
-            subst (PlaceIs m (h.done ++ (this ∷ [])) k) (sym (get_or-set_other ps label k (n + 1) 0 (λ w. q (sym w)))) (other_place k (λ w. q (z ∙ w)) (h.places.each k i j)));
+        count = length-set ps k (Some (n + 1)) ∙ h.places.count;
+        each = λ j i e. split (eqb k j)
+            (λ w. let q = eqb-true k j w in
+            let f : get_or (set ps k (Some (n + 1))) k None ≡ Some (n + 1) = get_or-set_same ps k (Some (n + 1)) None (omega (arith, h.places.count, b)) in
+            subst (λ x. PlaceIs m (h.done ++ (this ∷ [])) x (get_or (set ps k (Some (n + 1))) x None)) q
+            (subst (PlaceIs m (h.done ++ (this ∷ [])) k) (sym f) (this_place k z ((h.places.each k a b).missing free))))
+            (λ w. let q = eqb-false k j w in
+            subst (PlaceIs m (h.done ++ (this ∷ [])) j) (sym (get_or-set_other ps k j (Some (n + 1)) None (λ x. q (sym x)))) (other_place j (λ x. q (sym z ∙ x)) (h.places.each j i e)));
       };
     }
 
     -- the label had a line already
-    twice : (ls : List Line) → (label ≡ 0 → ⊥) → (get_or ps label 0 ≡ 0 → ⊥) → once ((h.done ++ (this ∷ [])) ++ ls) ≡ false
+    twice : (ls : List Line) {p : ℕ} → get_or ps k None ≡ Some p → once ((h.done ++ (this ∷ [])) ++ ls) ≡ false
     unfolding once
-    twice ls y q =
-        let t = (h.places.each label (omega (arith, y)) b).there q in
-        let c : lines_for label ((h.done ++ (this ∷ [])) ++ ls) ≡ t.line ∷ this ∷ lines_for label ls =
-        ap (lines_for label) (append_assoc h.done (this ∷ []) ls) ∙ for_append label h.done (this ∷ ls)
-        ∙ ap (λ x. x ++ lines_for label (this ∷ ls)) t.alone ∙ ap (λ x. t.line ∷ x) (for_this label this ls (sym z)) in
-        twice_from 1 7 label ((h.done ++ (this ∷ [])) ++ ls) (omega (arith, y)) b (omega (arith, ap length c))
+    twice ls {p} q =
+        let t = (h.places.each k a b).there p q in
+        let c : lines_for k ((h.done ++ (this ∷ [])) ++ ls) ≡ t.line ∷ this ∷ lines_for k ls =
+        ap (lines_for k) (append_assoc h.done (this ∷ []) ls) ∙ for_append k h.done (this ∷ ls)
+        ∙ ap (λ x. x ++ lines_for k (this ∷ ls)) t.alone ∙ ap (λ x. t.line ∷ x) (for_this k this ls z) in
+        twice_from 1 7 k ((h.done ++ (this ∷ [])) ++ ls) a b (omega (arith, ap length c))
 
-    pub reading_twice : is_second label (get_or ps label 0) ≡ true → ReadsLines m ps false
-    reading_twice s = record {
-      noted = λ x. let u : ◌≡◌ {A = ℕ} 0 1 = cc in absurd (omega arith);
-      refused = λ x ls e.
-          let (rs, f, g) = map_some (λ rs. (h.done ++ (this ∷ [])) ++ rs) (message (drop next m)) (sym rest_more ∙ e) in
-          let p = second_label label (get_or ps label 0) s in
-          subst (λ k. once k ≡ false) g (twice rs p.0 p.1);
-    }
+  module _ {label : Place} (z : label ≡ label_of (label_named name)) (b : IfSome label (λ k. k < 8)) where
+    pub reading_next : is_second label ps ≡ false → Reading m next (noted label (n + 1) ps)
+    reading_next = subst (λ x. is_second x ps ≡ false → Reading m next (noted x (n + 1) ps)) (sym z)
+        (go (label_named name) refl (subst (λ x. IfSome x (λ k. k < 8)) z b))
+      where
+        go : (k : ℕ) → label_named name ≡ k → IfSome (label_of k) (λ i. i < 8) → is_second (label_of k) ps ≡ false → Reading m next (noted (label_of k) (n + 1) ps)
+        go zero e l s = reading_nameless e
+        go (suc k) e l s = reading_named e (omega arith) l (second_free (get_or ps (suc k) None) s)
+
+    pub reading_twice : is_second label ps ≡ true → ReadsLines m ps false
+    reading_twice = subst (λ x. is_second x ps ≡ true → ReadsLines m ps false) (sym z)
+        (go (label_named name) refl (subst (λ x. IfSome x (λ k. k < 8)) z b))
+      where
+        go : (k : ℕ) → label_named name ≡ k → IfSome (label_of k) (λ i. i < 8) → is_second (label_of k) ps ≡ true → ReadsLines m ps false
+        go zero e l s = apart s refl
+        go (suc k) e l s = record {
+          noted = λ x. let u : ◌≡◌ {A = ℕ} 0 1 = cc in absurd (omega arith);
+          refused = λ x ls e2.
+              let (rs, f, g) = map_some (λ rs. (h.done ++ (this ∷ [])) ++ rs) (message (drop next m)) (sym rest_more ∙ e2) in
+              let p = second_label (get_or ps (suc k) None) s in
+              subst (λ y. once y ≡ false) g (twice e (omega arith) l rs p.1);
+        }
 
 -- ---- at the end
-module _ {m : List ℕ} {at : ℕ} {ps : List ℕ} (h : Reading m at ps) where
+module _ {m : List ℕ} {at : ℕ} {ps : List Place} (h : Reading m at ps) where
   -- a line is out of form
   pub reading_refused : at < length m → line (drop at m) ≡ none → ReadsLines m ps false
   reading_refused l e = record {
@@ -183,9 +201,9 @@ module _ {m : List ℕ} {at : ℕ} {ps : List ℕ} (h : Reading m at ps) where
   few : (k : ℕ) → 1 ≤ k → k < 8 → length (lines_for k h.done) ≤ 1
   few k a b =
       let p = h.places.each k a b in
-      split (eqb (get_or ps k 0) 0)
-      (λ e. let q = ap length (p.missing (eqb-true (get_or ps k 0) 0 e)) in omega (arith, q))
-      (λ e. let q = ap length (p.there (eqb-false (get_or ps k 0) 0 e)).alone in omega (arith, q))
+      split (is_some (get_or ps k None))
+      (λ e. let s = second_label (get_or ps k None) e in let q = ap length (p.there s.0 s.1).alone in omega (arith, q))
+      (λ e. let q = ap length (p.missing (second_free (get_or ps k None) e)) in omega (arith, q))
 
   pub reading_ends : (at < length m → ⊥) → ReadsLines m ps true
   unfolding once

@@ -1,7 +1,7 @@
 //! Kinds of bytes, and where a piece of bytes of one kind ends.
-ghost use Rattle.std.specs.Prelude.{◌≡◌, ◌≤◌, length};
+ghost use Rattle.std.specs.Prelude.{◌≡◌, ◌≤◌, ℕ, Bool, length};
 ghost use Rattle.spec_tracer.specs.Message.{is_capital, is_digit, is_name_byte, is_value_byte};
-ghost use Rattle.tracer_lines.specs.Piece.{piece_end, stands_at};
+ghost use Rattle.tracer_lines.specs.Piece.{Tells, piece_end, stands_at};
 
 /// The bytes that part a line.
 #[derive(Clone, Copy)]
@@ -21,14 +21,14 @@ impl Mark {
 pub fn is_capital(byte: u8) -> bool
     ensures { result ≡ is_capital byte }
 {
-    b'A' <= byte && byte <= b'Z'
+    byte.is_ascii_uppercase()
 }
 
 /// Whether a byte is a digit.
 pub fn is_digit(byte: u8) -> bool
     ensures { result ≡ is_digit byte }
 {
-    b'0' <= byte && byte <= b'9'
+    byte.is_ascii_digit()
 }
 
 /// Whether a byte may stand in a name.
@@ -38,17 +38,21 @@ fn is_name_byte(byte: u8) -> bool
     is_capital(byte) || is_digit(byte)
 }
 
-/// Whether a byte may stand in a value.
+/// Whether a byte may stand in a value: it is printable, and no semicolon.
 fn is_value_byte(byte: u8) -> bool
     ensures { result ≡ is_value_byte byte }
 {
-    if byte < 32 {
-        return false;
-    }
-    if 126 < byte {
-        return false;
-    }
-    byte != Mark::SEMICOLON
+    (b' '..=b'~').contains(&byte) && byte != Mark::SEMICOLON
+}
+
+/// Where the bytes of one kind end that begin at `from`.
+fn piece_end<F: Fn(u8) -> bool>(bytes: &[u8], from: usize, is_of_kind: F) -> usize
+    requires callable { F.IsAlwaysCallable is_of_kind }
+    requires inside { from ≤ length bytes.now }
+    ensures { (kind : ℕ → Bool) → Tells (F.post is_of_kind) kind → result ≡ piece_end kind bytes.now from }
+{
+    let rest = bytes[from..].iter();
+    from + rest.take_while(|&&byte| is_of_kind(byte)).count()
 }
 
 /// Where the bytes of a name end that begin at `from`.
@@ -56,14 +60,7 @@ pub fn name_end(bytes: &[u8], from: usize) -> usize
     requires { from ≤ length bytes.now }
     ensures { result ≡ piece_end is_name_byte bytes.now from }
 {
-    let mut at = from;
-    while at < bytes.len() {
-        if !is_name_byte(bytes[at]) {
-            return at;
-        }
-        at += 1;
-    }
-    at
+    piece_end(bytes, from, is_name_byte)
 }
 
 /// Where the bytes of a value end that begin at `from`.
@@ -71,14 +68,7 @@ pub fn value_end(bytes: &[u8], from: usize) -> usize
     requires { from ≤ length bytes.now }
     ensures { result ≡ piece_end is_value_byte bytes.now from }
 {
-    let mut at = from;
-    while at < bytes.len() {
-        if !is_value_byte(bytes[at]) {
-            return at;
-        }
-        at += 1;
-    }
-    at
+    piece_end(bytes, from, is_value_byte)
 }
 
 /// Where the digits end that begin at `from`.
@@ -86,19 +76,12 @@ pub fn digits_end(bytes: &[u8], from: usize) -> usize
     requires { from ≤ length bytes.now }
     ensures { result ≡ piece_end is_digit bytes.now from }
 {
-    let mut at = from;
-    while at < bytes.len() {
-        if !is_digit(bytes[at]) {
-            return at;
-        }
-        at += 1;
-    }
-    at
+    piece_end(bytes, from, is_digit)
 }
 
 /// Whether this byte stands at `at`.
 pub fn stands(bytes: &[u8], at: usize, byte: u8) -> bool
     ensures { result ≡ stands_at bytes.now at byte }
 {
-    at < bytes.len() && bytes[at] == byte
+    bytes.get(at) == Some(&byte)
 }

@@ -1,16 +1,14 @@
 -- Laws of writing the array.
-use Rattle.std.specs.Prelude.{◌≡◌, refl, List, [], ◌∷◌, ◌++◌, ℕ, ◌+◌, ◌-◌, ◌≤◌, ◌<◌, length}
+use Rattle.std.specs.Prelude.{◌≡◌, refl, List, [], ◌∷◌, ◌++◌, ℕ, ◌≤◌, ◌<◌, length, Ok, Err}
 use Rattle.std.proofs.Common.{sym, ap, subst, arith}
 use Rattle.spec_trees.specs.Bytes.{field_bytes, bytes, root_f, tree_f, array_f, array_bytes}
 use Rattle.spec_trees.proofs.FieldLaws.{bytes_one}
-use Rattle.areas.specs.declared.area.Out.{Out}
-use Rattle.areas.specs.declared.area.Out.TheVariants.{At, TooLarge}
-use Rattle.areas.specs.Area.{Wrote, Finishable, Finished, head_bytes, span}
+use Rattle.areas.specs.Area.{Wrote, Finishable, Finished, head_bytes, span, Out, too_large}
 use Rattle.areas.specs.AreaLaws.{no_room, length_field, wrote_wider, wrote_seq, finishable}
 use Rattle.format.specs.Stand.{labels_bytes}
 use Rattle.spec_tracer.specs.Message.{Line}
 use Rattle.spec_tracer.specs.Traced.{labels_from, message_tree}
-use Rattle.tracer_lines.specs.Places.{PlacesAre}
+use Rattle.tracer_lines.specs.Places.{Place, PlacesAre}
 use Rattle.tracer_tree.specs.Labels.{LabelsReady, WroteLabels}
 use Rattle.tracer_tree.specs.Array.{ArrayReady, WroteArray}
 
@@ -28,10 +26,10 @@ array_length ls =
     let b = length_field (2, content ls) in
     omega (arith, sym (ap length (array_so ls)), a, b)
 
-pub array_large : (m ps w : List ℕ) → length w < 9 → WroteArray m ps w w TooLarge
+pub array_large : (m : List ℕ) (ps : List Place) (w : List ℕ) → length w < 9 → WroteArray m ps w w (Err too_large)
 array_large m ps w h ls p = no_room w 0 (length w) (array_bytes (message_tree ls ∷ [])) (omega (arith, array_length ls, h))
 
-module _ (m ps w : List ℕ) {v : List ℕ} (b : 9 ≤ length w) (l : length v ≡ length w) (h : Wrote w v 6 9 (head_bytes 3 0) (At 9)) where
+module _ (m : List ℕ) (ps : List Place) (w : List ℕ) {v : List ℕ} (b : 9 ≤ length w) (l : length v ≡ length w) (h : Wrote w v 6 9 (head_bytes 3 0) (Ok 9)) where
   pub labels_ready : ArrayReady m ps w → LabelsReady m ps v (span 9 (length w))
   labels_ready a = record {
     lines = a.lines;

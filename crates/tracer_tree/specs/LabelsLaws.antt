@@ -1,20 +1,16 @@
 -- Laws of writing labels.
-use Rattle.std.specs.Prelude.{◌≡◌, refl, List, [], ◌∷◌, ◌++◌, map, ℕ, suc, ◌+◌, ◌-◌, ◌≤◌, ◌<◌, length, get_or, eqb}
-use Rattle.std.proofs.Common.{sym, ap, subst, ◌∙◌, append-nil, add-one, arith, eqb-true}
-use Rattle.std.proofs.lemmas.Bool.{eqb-false}
-use Rattle.spec_trees.specs.OptionLaws.{split}
+use Rattle.std.specs.Prelude.{◌≡◌, refl, List, [], ◌∷◌, ◌++◌, map, ℕ, suc, ◌+◌, ◌-◌, ◌≤◌, ◌<◌, length, get_or, Some, None, Ok, Err}
+use Rattle.std.proofs.Common.{sym, ap, subst, ◌∙◌, append-nil, add-one, arith}
 use Rattle.spec_trees.specs.Tree.{Trees, Labels, bare, label, trees}
 use Rattle.spec_trees.specs.Bytes.{bytes, label_fs, label_heads}
-use Rattle.areas.specs.declared.area.Out.{Out}
-use Rattle.areas.specs.declared.area.Out.TheVariants.{At, TooLarge}
-use Rattle.areas.specs.Area.{Wrote, span}
+use Rattle.areas.specs.Area.{Wrote, span, Out, too_large}
 use Rattle.areas.specs.AreaLaws.{no_room, wrote_none, wrote_seq, wrote_fail}
 use Rattle.format.specs.Stand.{labels_bytes, entry_of, entry_bytes, Behind, Headed}
 use Rattle.format.specs.StandLaws.{labels_first, length_entry}
 use Rattle.spec_tracer.specs.Message.{Line}
 use Rattle.spec_tracer.specs.Values.{value_tree}
 use Rattle.spec_tracer.specs.Traced.{lines_for, labelled, labels_from}
-use Rattle.tracer_lines.specs.Places.{PlaceIs, PlacesAre}
+use Rattle.tracer_lines.specs.Places.{Place, PlaceIs, PlacesAre}
 use Rattle.tracer_tree.specs.Values.{values_trees, WroteValues}
 use Rattle.tracer_tree.specs.Labels.{WroteLabel, WroteLabels, Writing}
 
@@ -50,40 +46,35 @@ labels_next k ls h =
     ∙ ap (λ i. labels_bytes (labelled k (lines_for k ls) bare) ++ labels_bytes (labels_from i (8 - (k + 1)) ls)) (sym (add-one k))
 
 -- ---- one label
-pub place_inside : {m : List ℕ} {ls : List Line} {k a : ℕ} → PlaceIs m ls k a → a ≤ length m
-place_inside {m} {ls} {k} {a} p = split (eqb a 0)
-    (λ e. omega (arith, eqb-true a 0 e))
-    (λ e. (p.there (eqb-false a 0 e)).inside)
+module _ (m : List ℕ) {from : Place} (k : ℕ) (w : List ℕ) (d stop : ℕ) where
+  pub label_none : from ≡ None → d ≤ stop → WroteLabel m from k w w (span d stop) (Ok d)
+  label_none z b ls p = subst (λ x. Wrote w w d stop x (Ok d)) (sym (labelled_none k (p.missing z))) (wrote_none w d stop b)
 
-module _ (m : List ℕ) (from k : ℕ) (w : List ℕ) (d stop : ℕ) where
-  pub label_none : from ≡ 0 → d ≤ stop → WroteLabel m from k w w (span d stop) (At d)
-  label_none z b ls p = subst (λ x. Wrote w w d stop x (At d)) (sym (labelled_none k (p.missing z))) (wrote_none w d stop b)
-
-  module _ (n : from ≡ 0 → ⊥) {h : ℕ} (e : h ≡ label_heads k) where
-    pub label_large : d ≤ stop → stop - d < h → WroteLabel m from k w w (span d stop) TooLarge
+  module _ {a : ℕ} (n : from ≡ Some a) {h : ℕ} (e : h ≡ label_heads k) where
+    pub label_large : d ≤ stop → stop - d < h → WroteLabel m from k w w (span d stop) (Err too_large)
     label_large b l ls p =
-        let t = p.there n in
+        let t = p.there a n in
         let c = values_trees k t.line.1 in
-        subst (λ x. Wrote w w d stop x TooLarge) (sym (labelled_one k t.line t.alone))
+        subst (λ x. Wrote w w d stop x (Err too_large)) (sym (labelled_one k t.line t.alone))
         (no_room w d stop (entry_of k c) (omega (arith, length_entry k c, e, b, l)))
 
-    module _ {v : List ℕ} {r : Out} (g : WroteValues m from k w v (span (d + h) stop) r) where
+    module _ {v : List ℕ} {r : Out} (g : WroteValues m a k w v (span (d + h) stop) r) where
       -- where the values end
       pub label_behind : {ls : List Line} → PlaceIs m ls k from → stop ≤ length v → Behind v (d + label_heads k) r
       label_behind p b i q =
-          let t = p.there n in
+          let t = p.there a n in
           let f = (g t.line.1 t.rest t.values_are).fits i q in
           (omega (arith, f.ends, e), omega (arith, f.room, b))
 
       pub label_some : {u : List ℕ} {q : Out} → d + h ≤ length w → Headed (entry_of k) (label_heads k) v u d r q → WroteLabel m from k w u (span d stop) q
       label_some {u} {q} b f ls p =
-          let t = p.there n in
+          let t = p.there a n in
           let c = values_trees k t.line.1 in
           subst (λ x. Wrote w u d stop x q) (sym (labelled_one k t.line t.alone))
           (f.wrote w stop c (omega (arith, b, e)) (subst (λ i. Wrote w v (d + i) stop c r) e (g t.line.1 t.rest t.values_are)))
 
 -- ---- all labels
-module _ (m ps w : List ℕ) (from to : ℕ) where
+module _ (m : List ℕ) (ps : List Place) (w : List ℕ) (from to : ℕ) where
   pub writing_begins : from ≤ to → Writing m ps w w (span from to) 1 from
   writing_begins b = record {
     least = omega arith;
@@ -94,11 +85,11 @@ module _ (m ps w : List ℕ) (from to : ℕ) where
   }
 
   module _ {v : List ℕ} {k at : ℕ} (h : Writing m ps w v (span from to) k at) (l : k < 8)
-      {u : List ℕ} {r : Out} (g : WroteLabel m (get_or ps k 0) k v u (span at to) r) where
+      {u : List ℕ} {r : Out} (g : WroteLabel m (get_or ps k None) k v u (span at to) r) where
     first_label : (ls : List Line) → PlacesAre m ls ps → Wrote v u at to (labels_bytes (labelled k (lines_for k ls) bare)) r
     first_label ls p = g ls (p.each k h.least l)
 
-    pub writing_next : {e : ℕ} {ls : List Line} → PlacesAre m ls ps → at ≤ length v → length u ≡ length v → r ≡ At e → Writing m ps w u (span from to) (k + 1) e
+    pub writing_next : {e : ℕ} {ls : List Line} → PlacesAre m ls ps → at ≤ length v → length u ≡ length v → r ≡ Ok e → Writing m ps w u (span from to) (k + 1) e
     writing_next {e} {ls} some b n q = record {
       least = omega arith;
       most = omega (arith, l);
@@ -107,12 +98,12 @@ module _ (m ps w : List ℕ) (from to : ℕ) where
       whole = λ xs p x o i. h.whole xs p x o (subst (λ y. Wrote v x at to y o) (sym (labels_next k xs l)) (wrote_seq (first_label xs p) b q i));
     }
 
-    pub writing_fails : r ≡ TooLarge → WroteLabels m ps w u (span from to) TooLarge
-    writing_fails q ls p = h.whole ls p u TooLarge
-        (subst (λ y. Wrote v u at to y TooLarge) (sym (labels_next k ls l)) (wrote_fail (first_label ls p) (labels_bytes (labels_from (k + 1) (8 - (k + 1)) ls)) q))
+    pub writing_fails : r ≡ Err too_large → WroteLabels m ps w u (span from to) (Err too_large)
+    writing_fails q ls p = h.whole ls p u (Err too_large)
+        (subst (λ y. Wrote v u at to y (Err too_large)) (sym (labels_next k ls l)) (wrote_fail (first_label ls p) (labels_bytes (labels_from (k + 1) (8 - (k + 1)) ls)) q))
 
-  pub writing_ends : {v : List ℕ} {k at : ℕ} → Writing m ps w v (span from to) k at → 8 ≤ k → WroteLabels m ps w v (span from to) (At at)
+  pub writing_ends : {v : List ℕ} {k at : ℕ} → Writing m ps w v (span from to) k at → 8 ≤ k → WroteLabels m ps w v (span from to) (Ok at)
   unfolding labels_from
   writing_ends {v} {k} {at} h b ls p =
       let z : k ≡ 8 = omega (arith, b, h.most) in
-      h.whole ls p v (At at) (subst (λ x. Wrote v v at to x (At at)) (sym (ap (λ i. labels_bytes (labels_from i (8 - i) ls)) z ∙ bare_none)) (wrote_none v at to h.below))
+      h.whole ls p v (Ok at) (subst (λ x. Wrote v v at to x (Ok at)) (sym (ap (λ i. labels_bytes (labels_from i (8 - i) ls)) z ∙ bare_none)) (wrote_none v at to h.below))

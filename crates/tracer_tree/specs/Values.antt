@@ -2,9 +2,8 @@
 use Rattle.std.specs.Prelude.{◌≡◌, List, map, ℕ, drop}
 use Rattle.std.proofs.Math.Option.{some}
 use Rattle.spec_trees.specs.Tree.{trees}
-use Rattle.areas.specs.declared.area.Out.{Out}
 use Rattle.areas.specs.declared.span.Span.{Span}
-use Rattle.areas.specs.Area.{Wrote}
+use Rattle.areas.specs.Area.{Wrote, Out}
 use Rattle.format.specs.Stand.{trees_bytes}
 use Rattle.spec_tracer.specs.Reading.{values}
 use Rattle.spec_tracer.specs.Values.{value_tree}

@@ -2,7 +2,8 @@
 use Rattle.std.proofs.Math.Path.{◌≡◌, refl, ap, subst}
 use Rattle.std.proofs.Common.{sym, ◌∙◌, arith, eq-eqb, ne_eqb}
 use mathlib.Core.List.{List, [], ◌∷◌, ◌++◌}
-use Rattle.std.specs.Prelude.{true, ℕ, ◌+◌, ◌≤◌, length, drop, get_or, ℤ}
+use Rattle.std.specs.Prelude.{true, ℕ, ◌+◌, ◌≤◌, length, drop, get_or, ℤ, Some, None, Ok, Err}
+use Rattle.std.specs.Prelude as code
 use Rattle.std.proofs.Math.Bool.{false}
 use Rattle.std.proofs.Math.Option.{Option, none, some, map}
 use Rattle.std.proofs.Math.Dec.{eqb}
@@ -11,9 +12,7 @@ use Rattle.spec_trees.specs.OptionLaws.{bind_some, map_some, some_equal}
 use Rattle.spec_trees.specs.Tree.{Root, void, integer, text, node, bare}
 use Rattle.spec_trees.specs.Bytes.{big, pattern, bytes, root_f, tree_f, tree_bytes}
 use Rattle.spec_trees.proofs.FieldLaws.{bytes_one}
-use Rattle.areas.specs.declared.area.Out.{Out}
-use Rattle.areas.specs.declared.area.Out.TheVariants.{At, TooLarge}
-use Rattle.areas.specs.Area.{Wrote, span}
+use Rattle.areas.specs.Area.{Wrote, span, Out, too_large}
 use Rattle.areas.specs.AreaLaws.{wrote_seq, wrote_fail}
 use Rattle.bare.specs.Bare.{bare_tree, integer_tree}
 use Rattle.bare.specs.BareLaws.{bare_bytes}
@@ -24,8 +23,6 @@ use Rattle.spec_tracer.specs.Values.{job_label, hundredths, value_root, value_tr
 use Rattle.tracer_lines.specs.Piece.{part, piece_end, stands_at}
 use Rattle.tracer_lines.specs.PieceLaws.{here, piece_front, piece_behind}
 use Rattle.tracer_lines.specs.LineLaws.{stands_inside, stands_byte, second_none}
-use Rattle.tracer_tree.specs.declared.number.Number.{Number}
-use Rattle.tracer_tree.specs.declared.number.Number.TheVariants as number_is
 use Rattle.tracer_tree.specs.Number.{bits_of}
 use Rattle.tracer_tree.specs.Values.{values_trees, WroteValues}
 
@@ -62,20 +59,20 @@ module _ (k : ℕ) (s : List ℕ) where
   other_root [] n e = absurd (n refl)
   other_root (b ∷ l) n e = rw (ne_eqb k job_label e) refl
 
-  module _ (n : length s ≡ 0 → ⊥) (e : k ≡ job_label → ⊥) {a : Number} (q : a ≡ bits_of (hundredths s)) where
-    pub text_bytes : a ≡ number_is.Nothing → bare_tree 6 s ≡ tree_bytes (value_tree k s)
+  module _ (n : length s ≡ 0 → ⊥) (e : k ≡ job_label → ⊥) {a : code.Option ℕ} (q : a ≡ bits_of (hundredths s)) where
+    pub text_bytes : a ≡ None → bare_tree 6 s ≡ tree_bytes (value_tree k s)
     unfolding root_f maybe
     text_bytes w = root_so 6 s (other_root s n e ∙ ap (maybe (text s) integer) (go (hundredths s) (sym q ∙ w))) refl
       where
-        go : (x : Option ℤ) → bits_of x ≡ number_is.Nothing → x ≡ none
+        go : (x : Option ℤ) → bits_of x ≡ None → x ≡ none
         go none y = refl
         go (some z) y = let u : ◌≡◌ {A = ℕ} 0 1 = cc in absurd (omega arith)
 
-    pub number_bytes_lem : {b : ℕ} → a ≡ number_is.Bits b → integer_tree b ≡ tree_bytes (value_tree k s)
+    pub number_bytes_lem : {b : ℕ} → a ≡ Some b → integer_tree b ≡ tree_bytes (value_tree k s)
     unfolding root_f maybe
     number_bytes_lem {b} w = go (hundredths s) refl (sym q ∙ w)
       where
-        go : (x : Option ℤ) → hundredths s ≡ x → bits_of x ≡ number_is.Bits b → integer_tree b ≡ tree_bytes (value_tree k s)
+        go : (x : Option ℤ) → hundredths s ≡ x → bits_of x ≡ Some b → integer_tree b ≡ tree_bytes (value_tree k s)
         go none y u = let v : ◌≡◌ {A = ℕ} 0 1 = cc in absurd (omega arith)
         go (some z) y u =
             let v : pattern z ≡ b = cc in
@@ -138,11 +135,11 @@ module _ (m : List ℕ) (from : ℕ) {to : ℕ} (b : from ≤ length m) (z : to 
         → tree_bytes (value_tree k (part from to m)) ++ tree_bytes (value_tree k (part (to + 1) last m)) ≡ values_trees k vs
     both_trees e = trees_two k (part from to m) (part (to + 1) last m) ∙ ap (values_trees k) (two_values m from b z e s y)
 
-    pub wrote_two : {u : List ℕ} {e : ℕ} {o : Out} → d ≤ length w → r ≡ At e → Wrote v u e stop (tree_bytes (value_tree k (part (to + 1) last m))) o
+    pub wrote_two : {u : List ℕ} {e : ℕ} {o : Out} → d ≤ length w → r ≡ Ok e → Wrote v u e stop (tree_bytes (value_tree k (part (to + 1) last m))) o
         → WroteValues m from k w u (span d stop) o
     wrote_two {u} {e} {o} l q g vs rest x = subst (λ i. Wrote w u d stop i o) (both_trees x) (wrote_seq h l q g)
 
   -- the first did not fit
-  pub wrote_not : stands_at m to semicolon ≡ true → r ≡ TooLarge → WroteValues m from k w v (span d stop) TooLarge
+  pub wrote_not : stands_at m to semicolon ≡ true → r ≡ Err too_large → WroteValues m from k w v (span d stop) (Err too_large)
   wrote_not s q vs rest e =
-      subst (λ i. Wrote w v d stop i TooLarge) (both_trees s refl e) (wrote_fail h (tree_bytes (value_tree k (part (to + 1) (piece_end is_value_byte m (to + 1)) m))) q)
+      subst (λ i. Wrote w v d stop i (Err too_large)) (both_trees s refl e) (wrote_fail h (tree_bytes (value_tree k (part (to + 1) (piece_end is_value_byte m (to + 1)) m))) q)

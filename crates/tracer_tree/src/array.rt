@@ -2,7 +2,7 @@
 ghost use Rattle.tracer_tree.specs.Array.{ArrayReady, WroteArray};
 
 use crate::labels::write_labels;
-use areas::area::{Out, finish, put_head};
+use areas::area::{TooLarge, finish, put_head};
 use areas::span::Span;
 use tracer_lines::places::Places;
 
@@ -10,13 +10,13 @@ use tracer_lines::places::Places;
 const HEADS: usize = 9;
 
 /// Writes the array at the start of `out`, if that has room for it.
-pub fn write_array(out: &mut [u8], message: &[u8], places: &Places) -> Out
+pub fn write_array(out: &mut [u8], message: &[u8], places: &Places) -> Result<usize, TooLarge>
     requires { ArrayReady message.now places.now out.old }
     ensures { WroteArray message.now places.now out.old out.new result }
 {
     let to = out.len();
     if to < HEADS {
-        return Out::TooLarge;
+        return Err(TooLarge);
     }
     put_head(out, 6, 3, HEADS);
     let written = write_labels(out, message, places, Span { from: HEADS, to });

@@ -2,24 +2,30 @@
 ghost use Rattle.tracer_tree.specs.Labels.{LabelReady, WroteLabel, LabelsReady, WroteLabels};
 
 use crate::values::write_values;
-use areas::area::Out;
+use areas::area::TooLarge;
 use areas::span::Span;
 use format::labels::{entry, heads};
 use tracer_lines::places::Places;
 
-/// The label with the trees of the values that begin at `from`; nothing, if that is 0: it has no line.
-fn write_label(out: &mut [u8], message: &[u8], from: usize, label: u16, room: Span) -> Out
+/// The label with the trees of the values that begin at `from`; nothing, if it has no line.
+fn write_label(
+    out: &mut [u8],
+    message: &[u8],
+    from: Option<usize>,
+    label: u16,
+    room: Span,
+) -> Result<usize, TooLarge>
     requires { LabelReady message.now from label out.old room }
     ensures { WroteLabel message.now from label out.old out.new room result }
 {
     let at = room.from;
     let to = room.to;
-    if from == 0 {
-        return Out::At(at);
-    }
+    let Some(from) = from else {
+        return Ok(at);
+    };
     let begin = heads(label);
     if to - at < begin {
-        return Out::TooLarge;
+        return Err(TooLarge);
     }
     let written = write_values(
         out,
@@ -35,26 +41,26 @@ fn write_label(out: &mut [u8], message: &[u8], from: usize, label: u16, room: Sp
 }
 
 /// All labels that have a line.
-pub fn write_labels(out: &mut [u8], message: &[u8], places: &Places, room: Span) -> Out
+pub fn write_labels(
+    out: &mut [u8],
+    message: &[u8],
+    places: &Places,
+    room: Span,
+) -> Result<usize, TooLarge>
     requires { LabelsReady message.now places.now out.old room }
     ensures { WroteLabels message.now places.now out.old out.new room result }
 {
     let to = room.to;
     let mut at = room.from;
-    let mut label = 1;
-    while label < 8 {
-        let written = write_label(
+    for label in 1..8 {
+        let end = write_label(
             out,
             message,
             places[label],
             label as u16,
             Span { from: at, to },
-        );
-        let Out::At(end) = written else {
-            return Out::TooLarge;
-        };
+        )?;
         at = end;
-        label += 1;
     }
-    Out::At(at)
+    Ok(at)
 }

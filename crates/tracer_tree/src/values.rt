@@ -6,8 +6,8 @@ ghost use Rattle.areas.specs.Area.{Wrote};
 ghost use Rattle.spec_tracer.specs.Values.{value_tree};
 ghost use Rattle.tracer_tree.specs.Values.{WroteValues};
 
-use crate::number::{Number, read_number};
-use areas::area::Out;
+use crate::number::read_number;
+use areas::area::TooLarge;
 use areas::span::Span;
 use bare::integer::put_integer;
 use bare::root::put_root;
@@ -22,7 +22,7 @@ const VOID: u8 = 3;
 const TEXT: u8 = 6;
 
 /// The tree of one value under this label.
-fn write_value(out: &mut [u8], value: &[u8], label: u16, room: Span) -> Out
+fn write_value(out: &mut [u8], value: &[u8], label: u16, room: Span) -> Result<usize, TooLarge>
     requires { (room.from ≤ room.to) × (room.to ≤ length out.old) × (length out.old ≤ work_min) }
     ensures { Wrote out.old out.new room.from room.to (tree_bytes (value_tree label value.now)) result }
 {
@@ -32,15 +32,20 @@ fn write_value(out: &mut [u8], value: &[u8], label: u16, room: Span) -> Out
     if label == JOB {
         return put_root(out, TEXT, value, room);
     }
-    let read = read_number(value);
-    let Number::Bits(bits) = read else {
+    let Some(bits) = read_number(value) else {
         return put_root(out, TEXT, value, room);
     };
     put_integer(out, bits, room)
 }
 
 /// The trees of the one or two values that begin at `from`.
-pub fn write_values(out: &mut [u8], message: &[u8], from: usize, label: u16, room: Span) -> Out
+pub fn write_values(
+    out: &mut [u8],
+    message: &[u8],
+    from: usize,
+    label: u16,
+    room: Span,
+) -> Result<usize, TooLarge>
     requires { (from ≤ length message.now) × (room.from ≤ room.to) × (room.to ≤ length out.old) × (length out.old ≤ work_min) }
     ensures { WroteValues message.now from label out.old out.new room result }
 {
@@ -49,9 +54,7 @@ pub fn write_values(out: &mut [u8], message: &[u8], from: usize, label: u16, roo
     if !stands(message, first, Mark::SEMICOLON) {
         return written;
     }
-    let Out::At(at) = written else {
-        return Out::TooLarge;
-    };
+    let at = written?;
     let begin = first + 1;
     let second = value_end(message, begin);
     write_value(

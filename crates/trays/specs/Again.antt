@@ -1,17 +1,16 @@
 -- What the writers of a regrouping's pairs ask, and what they write.
-use Rattle.std.specs.Prelude.{List, ◌++◌, map, ℕ, ◌+◌, ◌-◌, ◌≤◌, length}
+use Rattle.std.specs.Prelude.{List, ◌++◌, map, ℕ, ◌+◌, ◌-◌, ◌≤◌, length, Ok}
 use Rattle.spec_trees.specs.Limits.{work_min}
 use Rattle.spec_queries.specs.Query.{Path, Pair, pair_of}
 use Rattle.spec_queries.specs.Again.{again}
 use Rattle.areas.specs.Area.{IsAt, Wrote}
-use Rattle.areas.specs.declared.area.Out.TheVariants.{At}
 use Rattle.areas.specs.declared.span.Span.{Span}
 use Rattle.queries.specs.Places.{path_bytes, pair_bytes, pairs_bytes}
 use Rattle.queries.specs.declared.stage.GroupAt.{GroupAt}
 
 -- ---- a field twice
 abbrev pub WroteTwice : (w v : List ℕ) (d : ℕ) (f : List ℕ) → Type 0
-WroteTwice w v d f = Wrote w v d (length w) (f ++ f) (At (d + length f + length f))
+WroteTwice w v d f = Wrote w v d (length w) (f ++ f) (Ok (d + length f + length f))
 
 -- ---- one pair: there is room for its head and the path twice
 pub record PairRoom (w : List ℕ) (d : ℕ) (q : List ℕ) (target_at : Span) : Type 0 where
@@ -22,7 +21,7 @@ pub record PairRoom (w : List ℕ) (d : ℕ) (q : List ℕ) (target_at : Span) :
 
 -- whatever path stands there, it was written as source and as destination
 abbrev pub PairWritten : (w v : List ℕ) (d : ℕ) (q : List ℕ) (target_at : Span) → ℕ → Type 0
-PairWritten w v d q target_at r = (p : Path) → IsAt q target_at (path_bytes p) → Wrote w v d (length w) (pair_bytes (pair_of p p)) (At r)
+PairWritten w v d q target_at r = (p : Path) → IsAt q target_at (path_bytes p) → Wrote w v d (length w) (pair_bytes (pair_of p p)) (Ok r)
 
 -- ---- pairs, one behind another
 pub record PairsRoom (w : List ℕ) (d : ℕ) (q : List ℕ) (pairs_at : Span) : Type 0 where
@@ -32,7 +31,7 @@ pub record PairsRoom (w : List ℕ) (d : ℕ) (q : List ℕ) (pairs_at : Span) :
   pub small : length w ≤ work_min
 
 abbrev pub PairsWritten : (w v : List ℕ) (d : ℕ) (q : List ℕ) (pairs_at : Span) → ℕ → Type 0
-PairsWritten w v d q pairs_at r = (ps : List Pair) → IsAt q pairs_at (pairs_bytes ps) → Wrote w v d (length w) (pairs_bytes (map again ps)) (At r)
+PairsWritten w v d q pairs_at r = (ps : List Pair) → IsAt q pairs_at (pairs_bytes ps) → Wrote w v d (length w) (pairs_bytes (map again ps)) (Ok r)
 
 -- ---- those of a group
 pub record GroupRoom (w q : List ℕ) (at : GroupAt) : Type 0 where

@@ -1,5 +1,5 @@
 -- Laws of the writers of a regrouping's pairs: a field twice, one pair, one pair behind another, and those of a group.
-use Rattle.std.specs.Prelude.{◌≡◌, refl, List, [], ◌∷◌, ◌++◌, map, ℕ, suc, ◌+◌, ◌-◌, ◌≤◌, ◌<◌, length, take, drop, get_or, set}
+use Rattle.std.specs.Prelude.{◌≡◌, refl, List, [], ◌∷◌, ◌++◌, map, ℕ, suc, ◌+◌, ◌-◌, ◌≤◌, ◌<◌, length, take, drop, get_or, set, Ok}
 use Rattle.std.proofs.Common.{sym, ap, ap₂, ◌∙◌, append-nil, append_assoc, add-zero, add-one, arith, length-append, length-drop, length-set, length-take-le, take_all, take-add, take-suc, take-suc-set, drop-set-lt}
 use Rattle.std.proofs.Math.Path.{subst}
 use Rattle.std.proofs.lemmas.List.{take-set-le, drop-set-add}
@@ -9,7 +9,6 @@ use Rattle.spec_queries.specs.Bytes.{path_f, pair_f}
 use Rattle.spec_queries.specs.Again.{again}
 use Rattle.areas.specs.Area.{Is, Wrote, head_bytes, field_end, span}
 use Rattle.areas.specs.AreaLaws.{is_part_lem, is_keep, fitted, written, wrote_keep, wrote_none, wrote_seq, finish_at, length_field}
-use Rattle.areas.specs.declared.area.Out.TheVariants.{At}
 use Rattle.areas.specs.declared.span.Span.{Span}
 use Rattle.format.specs.Stand.{Holds}
 use Rattle.queries.specs.Places.{path_bytes, pair_bytes, pairs_bytes, ReadsPair}
@@ -75,14 +74,14 @@ field q t = take (t.to - t.from) (drop t.from q)
 
 -- y is what the copies of the field left, v what the head did
 pub pair_written : (q : List ℕ) (t : Span) (d : ℕ) {w y v : List ℕ} → d + 3 + length (field q t) + length (field q t) ≤ length w → length y ≡ length w
-    → WroteTwice w y (d + 3) (field q t) → Wrote y v d (d + 3) (head_bytes 49 (d + 3 + length (field q t) + length (field q t) - (d + 3))) (At (d + 3))
+    → WroteTwice w y (d + 3) (field q t) → Wrote y v d (d + 3) (head_bytes 49 (d + 3 + length (field q t) + length (field q t) - (d + 3))) (Ok (d + 3))
     → PairWritten w v d q t (d + 3 + length (field q t) + length (field q t))
 unfolding pair_f bytes
 pair_written q t d {w} {y} b l twice head p i =
     let c = bytes (path_f p ∷ path_f p ∷ []) in
     let z : field q t ++ field q t ≡ c = ap₂ ◌++◌ (is_part_lem i) (is_part_lem i ∙ sym (append-nil (path_bytes p))) in
     let e = d + 3 + length (field q t) + length (field q t) in
-    finish_at y d 49 (omega arith) (omega arith) refl head w (length w) c (omega arith) (subst (λ n. Wrote w y (d + 3) (length w) n (At e)) z twice)
+    finish_at y d 49 (omega arith) (omega arith) refl head w (length w) c (omega arith) (subst (λ n. Wrote w y (d + 3) (length w) n (Ok e)) z twice)
 
 -- the field is as long as its place
 pub field_size : (q : List ℕ) (t : Span) → t.from ≤ t.to → t.to ≤ length q → length (field q t) ≡ t.to - t.from
@@ -117,7 +116,7 @@ module _ {w₀ : List ℕ} {d₀ : ℕ} {q : List ℕ} {at : Span} {w : List ℕ
 
   pub pairs_end : p ≡ at.to → PairsWritten w₀ w d₀ q at d
   unfolding bytes
-  pairs_end z = g.whole w d (λ ps h. subst (λ l. Wrote w w d (length w) (pairs_bytes (map again l)) (At d)) (sym (list_none pair_f ps z h))
+  pairs_end z = g.whole w d (λ ps h. subst (λ l. Wrote w w d (length w) (pairs_bytes (map again l)) (Ok d)) (sym (list_none pair_f ps z h))
       (wrote_none w d (length w) (omega (arith, g.ready.room))))
 
   module _ (n : p ≡ at.to → ⊥) {m : ℕ} (z : m ≡ field_end q p) {x : PairAt} (reads : ReadsPair q (span p m) x) where
@@ -141,7 +140,7 @@ module _ {w₀ : List ℕ} {d₀ : ℕ} {q : List ℕ} {at : Span} {w : List ℕ
         }
 
     module _ {y : List ℕ} {e : ℕ} (l : length y ≡ length w) (k : PairWritten w y d q x.target e) where
-      one : (a : Pair) → Is q p m (pair_bytes a) → Wrote w y d (length w) (pair_bytes (again a)) (At e)
+      one : (a : Pair) → Is q p m (pair_bytes a) → Wrote w y d (length w) (pair_bytes (again a)) (Ok e)
       unfolding again
       one a h = k a.target (pair_target (reads a h))
 
@@ -158,9 +157,9 @@ module _ {w₀ : List ℕ} {d₀ : ℕ} {q : List ℕ} {at : Span} {w : List ℕ
             };
             whole = λ v r i. g.whole v r (λ ps h.
                 let f = list_parts pair_f ps z n h in
-                let j : Wrote y v e (length w) (pairs_bytes (map again f.rest)) (At r) =
-                subst (λ s. Wrote y v e s (pairs_bytes (map again f.rest)) (At r)) l (i f.rest f.rest_is) in
-                subst (λ b. Wrote w v d (length w) b (At r)) (sym (ap (λ a. pairs_bytes (map again a)) f.same ∙ pairs_first f.first f.rest))
+                let j : Wrote y v e (length w) (pairs_bytes (map again f.rest)) (Ok r) =
+                subst (λ s. Wrote y v e s (pairs_bytes (map again f.rest)) (Ok r)) l (i f.rest f.rest_is) in
+                subst (λ b. Wrote w v d (length w) b (Ok r)) (sym (ap (λ a. pairs_bytes (map again a)) f.same ∙ pairs_first f.first f.rest))
                 (wrote_seq (one f.first f.first_is) (omega (arith, g.ready.room)) refl j));
           }
 

@@ -1,6 +1,6 @@
 -- What the search for a tray group asks of a query's bytes, and what it says of them: the aggregates are looked through
 -- for a total, and the destinations are tested one after another, each against those behind it.
-use Rattle.std.specs.Prelude.{◌≡◌, List, [], ◌∷◌, ◌++◌, Bool, true, false, not, ◌&&◌, ℕ}
+use Rattle.std.specs.Prelude.{◌≡◌, List, [], ◌∷◌, ◌++◌, Bool, true, false, not, ◌&&◌, ℕ, Some, None, Option}
 use Rattle.std.proofs.Math.Option.{none}
 use Rattle.spec_trees.specs.Lists.{all, All}
 use Rattle.spec_queries.specs.Query.{Path, Pair, Stage, group}
@@ -11,8 +11,6 @@ use Rattle.areas.specs.Area.{IsAt}
 use Rattle.areas.specs.declared.span.Span.{Span}
 use Rattle.queries.specs.Places.{path_bytes, pairs_bytes, OkAt, Pairs}
 use Rattle.queries.specs.declared.stage.GroupAt.{GroupAt}
-use Rattle.queries.specs.declared.stage.StageAt.{StageAt}
-use Rattle.trays.specs.declared.tray_group.TrayGroup.{TrayGroup}
 
 -- ---- destinations, one against others
 -- no destination of the pairs begins with k
@@ -70,15 +68,6 @@ DistinctIs q at r = (ag gs : List Pair) → Pairs q at ag gs → r ≡ distinct_
 abbrev pub RegroupsIs : (q : List ℕ) → GroupAt → Bool → Type 0
 RegroupsIs q at r = (ag gs : List Pair) → Pairs q at ag gs → r ≡ regroups ag gs
 
--- ---- a query
--- a stage as a group
-abbrev pub group_of : StageAt → TrayGroup
-group_of (StageAt.Match f) = TrayGroup.Other
-group_of (StageAt.Unwind f) = TrayGroup.Other
-group_of (StageAt.Project f) = TrayGroup.Other
-group_of (StageAt.Group g) = TrayGroup.At g
-group_of (StageAt.Lookup f) = TrayGroup.Other
-
 -- q is the byte form of a query that the rules allow
 pub record QueryForm (q : List ℕ) : Type 0 where
   pub query : List Stage
@@ -93,10 +82,10 @@ pub record IsTrayGroup (q : List ℕ) (ss : List Stage) (at : GroupAt) : Type 0 
   pub again : regroups aggregates grouping ≡ true
   pub pairs : Pairs q at aggregates grouping
 
-pub record TrayGroupOf (q : List ℕ) (ss : List Stage) (r : TrayGroup) : Type 0 where
-  pub at_is : (at : GroupAt) → r ≡ TrayGroup.At at → IsTrayGroup q ss at
-  pub other_is : r ≡ TrayGroup.Other → regrouping ss ≡ none
+pub record TrayGroupOf (q : List ℕ) (ss : List Stage) (r : Option GroupAt) : Type 0 where
+  pub at_is : (at : GroupAt) → r ≡ Some at → IsTrayGroup q ss at
+  pub other_is : r ≡ None → regrouping ss ≡ none
 
 -- r is right of whatever query these bytes are
-abbrev pub TrayGroupIs : List ℕ → TrayGroup → Type 0
+abbrev pub TrayGroupIs : List ℕ → Option GroupAt → Type 0
 TrayGroupIs q r = (ss : List Stage) → q ≡ query_bytes ss → OkQ ss → TrayGroupOf q ss r

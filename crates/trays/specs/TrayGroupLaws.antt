@@ -2,7 +2,7 @@
 use Rattle.std.proofs.Math.Path.{◌≡◌, refl, sym, ap, subst}
 use Rattle.std.proofs.Common.{◌∙◌, arith}
 use mathlib.Core.List.{List, [], ◌∷◌, ◌++◌}
-use Rattle.std.specs.Prelude.{Bool, ◌&&◌, ℕ, ◌+◌, ◌≤◌, length, get_or, eqb}
+use Rattle.std.specs.Prelude.{Bool, ◌&&◌, ℕ, ◌+◌, ◌≤◌, length, get_or, eqb, Some, None, Option}
 use Rattle.std.proofs.Math.Bool.{true, false, not}
 use Rattle.std.proofs.Math.Option.{none, some}
 use borrow.Author.Tests.{eq-eqb, ne_eqb}
@@ -16,7 +16,7 @@ use Rattle.spec_queries.specs.Again.{leads, distinct_targets, no_totals, regroup
 use Rattle.areas.specs.Area.{Is, IsAt, field_end, span}
 use Rattle.areas.specs.declared.span.Span.{Span}
 use Rattle.format.specs.Stand.{Holds}
-use Rattle.queries.specs.Places.{path_bytes, pair_bytes, pairs_bytes, stage_bytes, stages_bytes, HoldsAt, HoldsOk, OkAt, PairIs, ReadsPair, TotalIs, ReadsStage, ReadsQuery, Pairs}
+use Rattle.queries.specs.Places.{path_bytes, pair_bytes, pairs_bytes, stage_bytes, stages_bytes, HoldsAt, HoldsOk, OkAt, PairIs, ReadsPair, TotalIs, group_of, ReadsStage, ReadsQuery, Pairs}
 use Rattle.queries.specs.PartLaws.{list_parts, list_none, holds_of}
 use Rattle.queries.specs.Steps.{step_count, step_at, StepInside}
 use Rattle.queries.specs.StepLaws.{steps_are, step_is, step_inside, path_room}
@@ -24,8 +24,7 @@ use Rattle.queries.specs.declared.item.PairAt.{PairAt}
 use Rattle.queries.specs.declared.stage.GroupAt.{GroupAt}
 use Rattle.queries.specs.declared.stage.StageAt.{StageAt}
 use Rattle.paths.specs.ComparedLaws.{is_none}
-use Rattle.trays.specs.declared.tray_group.TrayGroup.{TrayGroup}
-use Rattle.trays.specs.TrayGroup.{none_leads, alone, apart, group_of, NoneLeadsIs, AloneIs, ApartIs, NoTotalsIs, GroupStands, DistinctIs, RegroupsIs, QueryForm, IsTrayGroup, TrayGroupIs}
+use Rattle.trays.specs.TrayGroup.{none_leads, alone, apart, NoneLeadsIs, AloneIs, ApartIs, NoTotalsIs, GroupStands, DistinctIs, RegroupsIs, QueryForm, IsTrayGroup, TrayGroupIs}
 use Rattle.trays.specs.TargetLaws.{leads_both, distinct_parts}
 
 -- ---- the destination of a pair
@@ -198,7 +197,7 @@ module _ (q : List ℕ) (at : GroupAt) {r : Bool} (i : NoTotalsIs q at.aggregate
   regroups_is z j ag gs h = j ag gs h ∙ sym (ap (λ b. b && distinct_targets ag gs) (sym (i ag h.aggregates_is) ∙ z))
 
 -- ---- a query
-other_only : {q : List ℕ} → ((ss : List Stage) → q ≡ query_bytes ss → OkQ ss → regrouping ss ≡ none) → TrayGroupIs q TrayGroup.Other
+other_only : {q : List ℕ} → ((ss : List Stage) → q ≡ query_bytes ss → OkQ ss → regrouping ss ≡ none) → TrayGroupIs q None
 other_only h ss z o = record {
   at_is = λ at y. let x : ◌≡◌ {A = ℕ} 0 1 = cc in absurd (omega arith);
   other_is = λ y. h ss z o;
@@ -215,7 +214,7 @@ regrouping_several (lookup a b p) t ss = refl
 
 module _ {q : List ℕ} {x : Span} (reads : ReadsQuery q x) where
   -- of no stage
-  pub query_empty : x.from ≡ x.to → TrayGroupIs q TrayGroup.Other
+  pub query_empty : x.from ≡ x.to → TrayGroupIs q None
   unfolding regrouping
   query_empty z = other_only (λ ss y o. ap regrouping (list_none stage_f ss z (reads ss y)))
 
@@ -227,7 +226,7 @@ module _ {q : List ℕ} {x : Span} (reads : ReadsQuery q x) where
         let c = list_parts stage_f h.query z n y in
         omega (arith, c.within, y.inside)
 
-    pub query_more : (m ≡ x.to → ⊥) → TrayGroupIs q TrayGroup.Other
+    pub query_more : (m ≡ x.to → ⊥) → TrayGroupIs q None
     unfolding bytes
     query_more l = other_only go
       where
@@ -251,24 +250,24 @@ module _ {q : List ℕ} {x : Span} (reads : ReadsQuery q x) where
       pub query_stage : QueryForm q → Holds stage_bytes q x.from x.to
       query_stage h = let c = one_stage h.query h.query_is in record { value = c.0; value_is = c.2 }
 
-      module _ {st : StageAt} (r : ReadsStage q x st) {found : TrayGroup} (k : found ≡ group_of st) where
+      module _ {st : StageAt} (r : ReadsStage q x st) {found : (Option GroupAt)} (k : found ≡ group_of st) where
         -- is no group
-        pub query_plain : found ≡ TrayGroup.Other → TrayGroupIs q TrayGroup.Other
+        pub query_plain : found ≡ None → TrayGroupIs q None
         unfolding regrouping
         query_plain g = other_only (λ ss y o. let c = one_stage ss y in ap regrouping c.1 ∙ go c.0 c.2 st refl (sym k ∙ g))
           where
-            go : (s : Stage) → IsAt q x (stage_bytes s) → (i : StageAt) → st ≡ i → group_of i ≡ TrayGroup.Other → regrouping (s ∷ []) ≡ none
+            go : (s : Stage) → IsAt q x (stage_bytes s) → (i : StageAt) → st ≡ i → group_of i ≡ None → regrouping (s ∷ []) ≡ none
             go s h (StageAt.Match f) w e = ap (λ j. regrouping (j ∷ [])) ((r s h).match_is f w).same
             go s h (StageAt.Unwind f) w e = ap (λ j. regrouping (j ∷ [])) ((r s h).unwind_is f w).same
             go s h (StageAt.Project f) w e = ap (λ j. regrouping (j ∷ [])) ((r s h).project_is f w).same
             go s h (StageAt.Group f) w e = let a : ◌≡◌ {A = ℕ} 0 1 = cc in absurd (omega arith)
             go s h (StageAt.Lookup f) w e = ap (λ j. regrouping (j ∷ [])) ((r s h).lookup_is f w).same
 
-        module _ {at : GroupAt} (w : found ≡ TrayGroup.At at) where
+        module _ {at : GroupAt} (w : found ≡ Some at) where
           is_group_lem : st ≡ StageAt.Group at
           is_group_lem = go st refl (sym k ∙ w)
             where
-              go : (i : StageAt) → st ≡ i → group_of i ≡ TrayGroup.At at → st ≡ StageAt.Group at
+              go : (i : StageAt) → st ≡ i → group_of i ≡ Some at → st ≡ StageAt.Group at
               go (StageAt.Match f) z e = let a : ◌≡◌ {A = ℕ} 0 1 = cc in absurd (omega arith)
               go (StageAt.Unwind f) z e = let a : ◌≡◌ {A = ℕ} 0 1 = cc in absurd (omega arith)
               go (StageAt.Project f) z e = let a : ◌≡◌ {A = ℕ} 0 1 = cc in absurd (omega arith)
@@ -290,7 +289,7 @@ module _ {q : List ℕ} {x : Span} (reads : ReadsQuery q x) where
           pub query_group : QueryForm q → GroupStands q at
           query_group h = let c = stage_group h.query h.query_is h.query_ok in record { aggregates = c.0; grouping = c.1; pairs = c.3 }
 
-          pub query_such : {b : Bool} → RegroupsIs q at b → b ≡ true → TrayGroupIs q (TrayGroup.At at)
+          pub query_such : {b : Bool} → RegroupsIs q at b → b ≡ true → TrayGroupIs q (Some at)
           query_such i y ss u o =
               let c = stage_group ss u o in
               let t : IsTrayGroup q ss at = record { aggregates = c.0; grouping = c.1; same = c.2; again = sym (i c.0 c.1 c.3) ∙ y; pairs = c.3 } in
@@ -299,7 +298,7 @@ module _ {q : List ℕ} {x : Span} (reads : ReadsQuery q x) where
                 other_is = λ v. let a : ◌≡◌ {A = ℕ} 0 1 = cc in absurd (omega arith);
               }
 
-          pub query_not_such : {b : Bool} → RegroupsIs q at b → b ≡ false → TrayGroupIs q TrayGroup.Other
+          pub query_not_such : {b : Bool} → RegroupsIs q at b → b ≡ false → TrayGroupIs q None
           unfolding regrouping only
           query_not_such i y = other_only (λ ss u o.
               let c = stage_group ss u o in

@@ -15,11 +15,9 @@ fn copy_twice(out: &mut [u8], at: usize, source: &[u8])
     ensures { WroteTwice out.old out.new at source.now }
 {
     let n = source.len();
-    let mut i = 0;
-    while i < n {
+    for i in 0..n {
         out[at + i] = source[i];
         out[at + n + i] = source[i];
-        i += 1;
     }
 }
 

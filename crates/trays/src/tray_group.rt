@@ -4,35 +4,25 @@ ghost use Rattle.std.specs.Prelude.{◌≡◌};
 ghost use Rattle.spec_trees.specs.Lists.{All};
 ghost use Rattle.spec_queries.specs.Rules.{OkPair};
 ghost use Rattle.queries.specs.Places.{pairs_bytes, HoldsAt, OkAt};
-ghost use Rattle.trays.specs.TrayGroup.{group_of, QueryForm, TargetsReady, GroupStands, NoneLeadsIs, AloneIs, ApartIs, DistinctIs, NoTotalsIs, RegroupsIs, TrayGroupIs};
+ghost use Rattle.trays.specs.TrayGroup.{QueryForm, TargetsReady, GroupStands, NoneLeadsIs, AloneIs, ApartIs, DistinctIs, NoTotalsIs, RegroupsIs, TrayGroupIs};
 
 use areas::area::field_end;
 use areas::span::Span;
+use format::fields::fields_in;
 use queries::item::{is_total, pair_at};
 use queries::path::{step_at, steps};
-use queries::stage::{GroupAt, StageAt, stage_at, stages_of};
-
-/// Where the pairs of such a group stand; or the query is another.
-#[derive(Clone, Copy)]
-pub enum TrayGroup {
-    At(GroupAt),
-    Other,
-}
+use queries::stage::{GroupAt, stage_at, stages_of};
 
 /// Whether no destination of the pairs begins with the label.
 fn none_leads(query: &[u8], pairs: Span, label: u16) -> bool
     requires { OkAt (All OkPair) pairs_bytes query.now pairs }
     ensures { NoneLeadsIs query.now pairs label result }
 {
-    let end = pairs.to;
-    let mut at = pairs.from;
-    while at != end {
-        let m = field_end(query, at);
-        let pair = pair_at(query, Span { from: at, to: m });
+    for field in fields_in(query, pairs) {
+        let pair = pair_at(query, field);
         if step_at(query, pair.target, 0) == label {
             return false;
         }
-        at = m;
     }
     true
 }
@@ -58,14 +48,15 @@ fn apart(query: &[u8], pairs: Span, others: Span) -> bool
     ensures { ApartIs query.now pairs others result }
 {
     let end = pairs.to;
-    let mut at = pairs.from;
-    while at != end {
-        let m = field_end(query, at);
-        let pair = pair_at(query, Span { from: at, to: m });
-        if !alone(query, pair.target, Span { from: m, to: end }, others) {
+    for field in fields_in(query, pairs) {
+        let pair = pair_at(query, field);
+        let behind = Span {
+            from: field.to,
+            to: end,
+        };
+        if !alone(query, pair.target, behind, others) {
             return false;
         }
-        at = m;
     }
     true
 }
@@ -88,14 +79,10 @@ fn no_totals(query: &[u8], pairs: Span) -> bool
     requires { HoldsAt pairs_bytes query.now pairs }
     ensures { NoTotalsIs query.now pairs result }
 {
-    let end = pairs.to;
-    let mut at = pairs.from;
-    while at != end {
-        let m = field_end(query, at);
-        if is_total(query, Span { from: at, to: m }) {
+    for pair in fields_in(query, pairs) {
+        if is_total(query, pair) {
             return false;
         }
-        at = m;
     }
     true
 }
@@ -111,41 +98,23 @@ fn regroups(query: &[u8], group: GroupAt) -> bool
     distinct(query, group)
 }
 
-/// The stage, if it is a group.
-fn group_of(stage: StageAt) -> TrayGroup
-    ensures { result ≡ group_of stage }
-{
-    match stage {
-        StageAt::Match(_) => TrayGroup::Other,
-        StageAt::Unwind(_) => TrayGroup::Other,
-        StageAt::Project(_) => TrayGroup::Other,
-        StageAt::Group(group) => TrayGroup::At(group),
-        StageAt::Lookup(_) => TrayGroup::Other,
-    }
-}
-
-/// The group, if an admitted query is one such group alone. For any other, as where tag 54 stands, the regrouping call
+/// Where the pairs of the group stand, if an admitted query is one such group alone. For any other, as where tag 54 stands, the regrouping call
 /// gives 3.
-pub fn tray_group(query: &[u8]) -> TrayGroup
+pub fn tray_group(query: &[u8]) -> Option<GroupAt>
     requires { QueryForm query.now }
     ensures { TrayGroupIs query.now result }
 {
     let stages = stages_of(query);
     let end = stages.to;
     if stages.from == end {
-        return TrayGroup::Other;
+        return None;
     }
     if field_end(query, stages.from) != end {
-        return TrayGroup::Other;
+        return None;
     }
-    let stage = stage_at(query, stages);
-    let found = group_of(stage);
-    let TrayGroup::At(group) = found else {
-        return TrayGroup::Other;
-    };
-    if regroups(query, group) {
-        TrayGroup::At(group)
-    } else {
-        TrayGroup::Other
+    let group = stage_at(query, stages).group()?;
+    if !regroups(query, group) {
+        return None;
     }
+    Some(group)
 }

@@ -1,21 +1,17 @@
 -- Laws of counting outcomes, of trees written around a content, and of the outcome that comes j-th.
-use Rattle.std.specs.Prelude.{◌≡◌, refl, ℕ, ◌+◌, ◌-◌, ◌≤◌, ◌<◌, take, drop, get_or}
+use Rattle.std.specs.Prelude.{◌≡◌, refl, ℕ, ◌+◌, ◌-◌, ◌≤◌, ◌<◌, take, drop, get_or, Some, None, Err, Ok as At}
 use Rattle.std.proofs.Math.Path.{sym, ap, subst}
 use Rattle.std.proofs.Common.{◌∙◌, arith, take-take, get_or-append-add}
 use mathlib.Core.List.{List, [], ◌∷◌, ◌++◌, map, append_assoc}
 use Rattle.std.proofs.Math.Option.{some}
 use Rattle.std.proofs.Math.ListN.{length, length-append, get_or-append}
-use Rattle.areas.specs.declared.area.Out.{Out}
-use Rattle.areas.specs.declared.area.Out.TheVariants.{At, TooLarge}
-use Rattle.format.specs.declared.labels.Found.{Found}
-use Rattle.format.specs.declared.labels.Found.TheVariants.{Part, Missing}
 use Rattle.spec_trees.specs.Lists.{gather}
 use Rattle.spec_trees.specs.Limits.{label_max, tree_max, depth_max}
 use Rattle.spec_trees.specs.Tree.{Tree, Trees, ε, ◌▹◌, list, root, labels, find, put}
 use Rattle.spec_trees.specs.Size.{size}
 use Rattle.spec_trees.specs.Bytes.{field_bytes, bytes, tree_f, tree_bytes, label_heads}
 use Rattle.spec_trees.specs.Within.{Ok, OkA, Allowed}
-use Rattle.areas.specs.Area.{Is, span, Fitted, Wrote, field_end, Finished}
+use Rattle.areas.specs.Area.{Is, span, Fitted, Wrote, field_end, Finished, Out, too_large}
 use Rattle.areas.specs.declared.span.Span.{Span}
 use Rattle.format.specs.Stand.{root_bytes, trees_bytes, labels_bytes, entry_of, entry_bytes, Holds, Finds, Behind, Headed}
 use Rattle.areas.specs.AreaLaws.{is_join, is_copied, is_keep, failed, told, wrote_keep, wrote_before, wrote_seq, length_field}
@@ -32,6 +28,7 @@ use Rattle.unwind.specs.Outcomes.{sound_bytes, sounds_bytes, TreeEntry, EntryAt,
 use Rattle.place.specs.WriterLaws.{rest_of, rest_none}
 use Rattle.spec_trees.specs.FindLaws.{found_ok}
 use Rattle.spec_stages.proofs.UnwoundLaws.{labels_ok_lem, length_map, unwound_none, unwound_some, unwound_count, get_d_map, outcome_under}
+use Rattle.format.specs.Labels.{Found}
 
 -- ---- counting
 module _ {q : List ℕ} {p : Span} (i : ℕ) {w : List ℕ} {a b : ℕ} where
@@ -40,12 +37,12 @@ module _ {q : List ℕ} {p : Span} (i : ℕ) {w : List ℕ} {a b : ℕ} where
   count_end z path t g h = sym (ap (λ l. length (unwound l t)) (rest_none path i g z))
 
   module _ {k l : ℕ} {o : Found} (n : i < step_count q p) (s : k ≡ step_at q p i) (m : l ≡ field_end w (a + 3)) (f : Finds w (span l b) k o) where
-    pub count_missing : o ≡ Missing → Counts q p i w (span a b) 0
+    pub count_missing : o ≡ None → Counts q p i w (span a b) 0
     count_missing z path t g h =
         let y = (f (labels t) (tree_parts t m h).labels_is).missing z in
         sym (ap (λ l. length (unwound l t)) (rest_of path i g n s) ∙ ap length (unwound_none k (drop (i + 1) path) t y))
 
-    pub count_part : {c u x : ℕ} → o ≡ Part (span c u) → CountsEach q p (i + 1) w (span c u) x → Counts q p i w (span a b) x
+    pub count_part : {c u x : ℕ} → o ≡ Some (span c u) → CountsEach q p (i + 1) w (span c u) x → Counts q p i w (span a b) x
     count_part {c} {u} {x} z j path t g h =
         let y = (f (labels t) (tree_parts t m h).labels_is).part (span c u) z in
         let us = gather (unwound (drop (i + 1) path)) (list y.array) in
@@ -102,7 +99,7 @@ module _ {w : List ℕ} {k a b f t d stop n : ℕ} {r : Out} (g : Around w k (sp
         let e : d + (f - a) ≡ start + label_heads k = omega (arith, around_places) in
         h1.wrote u stop c (omega (arith, around_places)) (subst (λ n. Wrote u w n stop c r) e h)
 
-    pub surround_large : o ≡ TooLarge → Surrounds w w1 k (span a b) (span f t) (span d stop) r TooLarge
+    pub surround_large : o ≡ Err too_large → Surrounds w w1 k (span a b) (span f t) (span d stop) r (Err too_large)
     surround_large z u front back c l fr ba h =
         let y = (content u c l h).large z in
         failed record {
@@ -144,7 +141,7 @@ holding_bytes k t x front back h =
     ap (λ l. field_bytes (2, root_bytes (root t) ++ l)) (h (x ▹ ε) ∙ ap (λ l. front ++ (l ++ back)) (entry_one k x))
     ∙ ap (λ l. field_bytes (2, l)) (sym (append_assoc (root_bytes (root t)) front (entry_of k (tree_bytes x) ++ back)))
 
-module _ {w : List ℕ} {a b l k : ℕ} {o : Found} {f u : ℕ} (m : l ≡ field_end w (a + 3)) (h : Finds w (span l b) k o) (z : o ≡ Part (span f u)) where
+module _ {w : List ℕ} {a b l k : ℕ} {o : Found} {f u : ℕ} (m : l ≡ field_end w (a + 3)) (h : Finds w (span l b) k o) (z : o ≡ Some (span f u)) where
   pub entry_of_lem : EntryAt w k (span a b) (span f u)
   entry_of_lem t ok j =
       let p = tree_parts t m j in
@@ -250,7 +247,7 @@ module _ {w q : List ℕ} {p : Span} {i a b d stop : ℕ} (g : WriterReady sound
     small = g.small;
   }
 
-  module _ {l k : ℕ} {o : Found} {f u : ℕ} (m : l ≡ field_end w (a + 3)) (h : Finds w (span l b) k o) (z : o ≡ Part (span f u)) where
+  module _ {l k : ℕ} {o : Found} {f u : ℕ} (m : l ≡ field_end w (a + 3)) (h : Finds w (span l b) k o) (z : o ≡ Some (span f u)) where
     pub sound_places : (a + (6 + label_heads k) ≤ f) × (f ≤ u) × (u ≤ b)
     sound_places = entry_places (entry_of_lem m h z g.source.value.tree g.source.value.ok g.source.value_is)
 
@@ -294,14 +291,14 @@ module _ {w q : List ℕ} {p : Span} {i a b d stop : ℕ} (g : WriterReady sound
 
 module _ {w : List ℕ} (q : List ℕ) (p : Span) (i : ℕ) {a b l k : ℕ} {o : Found} (n : i < step_count q p) (s : k ≡ step_at q p i)
     (m : l ≡ field_end w (a + 3)) (h : Finds w (span l b) k o) where
-  pub nth_missing : (j d stop : ℕ) → o ≡ Missing → PutsNth w w q p i (span a b) j (span d stop) (Past j)
+  pub nth_missing : (j d stop : ℕ) → o ≡ None → PutsNth w w q p i (span a b) j (span d stop) (Past j)
   nth_missing j d stop z path t g ok x =
       let y = (h (labels t) (tree_parts t m x).labels_is).missing z in
       let c = ap (λ r. unwound r t) (rest_of path i g n s) ∙ unwound_none k (drop (i + 1) path) t y in
       subst (λ us. NthIs w w (span d stop) us j (Past j)) (sym c) (nth_past [] (omega arith))
 
   -- none of the array's trees has it
-  pub nth_inner_past : {f u : ℕ} {w1 : List ℕ} {j : ℕ} (d : ℕ) {stop : ℕ} {inner : Nth} {c : ℕ} → o ≡ Part (span f u)
+  pub nth_inner_past : {f u : ℕ} {w1 : List ℕ} {j : ℕ} (d : ℕ) {stop : ℕ} {inner : Nth} {c : ℕ} → o ≡ Some (span f u)
       → PutsNthEach w w1 q p (i + 1) (span f u) j (span (d + (f - a)) stop) inner → inner ≡ Past c → PutsNth w w1 q p i (span a b) j (span d stop) inner
   nth_inner_past {w1 = w1} {j} d {stop} {inner} z h1 r path t g ok x =
       let y = entry_of_lem m h z t ok x in
@@ -311,7 +308,7 @@ module _ {w : List ℕ} (q : List ℕ) (p : Span) (i : ℕ) {a b l k : ℕ} {o :
       (nth_beyond us (map (holding k t) us) (sym (length_map (holding k t) us)) r (h1 path y.array g (found_sound k t y.array ok y.same) y.array_is))
 
   -- one of them has it, and the tree was written around it
-  pub nth_inner_written : {f u : ℕ} {w1 w2 : List ℕ} {j d stop : ℕ} {inner : Nth} {r r2 : Out} → stop ≤ length w → o ≡ Part (span f u)
+  pub nth_inner_written : {f u : ℕ} {w1 w2 : List ℕ} {j d stop : ℕ} {inner : Nth} {r r2 : Out} → stop ≤ length w → o ≡ Some (span f u)
       → PutsNthEach w w1 q p (i + 1) (span f u) j (span (d + (f - a)) stop) inner → inner ≡ Written r → Surrounds w1 w2 k (span a b) (span f u) (span d stop) r r2
       → PutsNth w w2 q p i (span a b) j (span d stop) (Written r2)
   nth_inner_written {w1 = w1} {w2} {j} {d} {stop} {inner} {r} {r2} sl z h1 iw sr path t g ok x =

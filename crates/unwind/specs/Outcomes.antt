@@ -1,15 +1,13 @@
 -- What the functions of `unwind` promise: where a label's entry stands among the others, how many outcomes there are,
 -- the outcome that comes j-th, and a tree written around what was put under its label.
-use Rattle.std.specs.Prelude.{◌≡◌, List, [], ◌∷◌, ◌++◌, ℕ, ◌+◌, ◌-◌, ◌≤◌, ◌<◌, length, drop, get_or}
+use Rattle.std.specs.Prelude.{◌≡◌, List, [], ◌∷◌, ◌++◌, ℕ, ◌+◌, ◌-◌, ◌≤◌, ◌<◌, length, drop, get_or, Ok as At}
 use Rattle.std.proofs.Math.Option.{some}
-use Rattle.areas.specs.declared.area.Out.{Out}
-use Rattle.areas.specs.declared.area.Out.TheVariants.{At}
 use Rattle.spec_trees.specs.Limits.{label_max, work_min}
 use Rattle.spec_trees.specs.Lists.{gather}
 use Rattle.spec_trees.specs.Tree.{Tree, Trees, list, labels, find}
 use Rattle.spec_trees.specs.Bytes.{field_bytes, tree_bytes, label_heads}
 use Rattle.spec_trees.specs.Within.{Ok, OkA}
-use Rattle.areas.specs.Area.{Is, IsAt, Wrote}
+use Rattle.areas.specs.Area.{Is, IsAt, Wrote, Out}
 use Rattle.areas.specs.declared.span.Span.{Span}
 use Rattle.format.specs.Stand.{trees_bytes, entry_of}
 use Rattle.spec_queries.specs.Query.{Path}

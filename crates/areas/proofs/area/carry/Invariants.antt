@@ -1,4 +1,4 @@
-use Rattle.std.proofs.Common.{◌≡◌, ◌-◌, ◌≤◌, length, take, drop}
+use Rattle.std.proofs.Common.{◌≡◌, ◌≤◌, length, take, drop}
 use lib.Seq.{paste}
 use Rattle.areas.proofs.area.carry.Given as goal
 
@@ -6,6 +6,3 @@ abbrev pub invariant-loop-i : goal.invariant-loop-i
 invariant-loop-i l =
     (l.i ≤ l.len) × (length l.work ≡ length l.initial.work) × (l.work ≡ paste l.initial.work l.to (take l.len (drop
     l.from l.initial.work)) l.i)
-
-abbrev pub decreases-loop-i : goal.decreases-loop-i
-decreases-loop-i l = l.len - l.i

@@ -6,6 +6,3 @@ abbrev pub invariant-loop-i : goal.invariant-loop-i
 invariant-loop-i l =
     (l.i ≤ l.initial.i) × (length l.work ≡ length l.initial.work) × Backwards l.initial.work l.from l.initial.i l.to
     l.work l.i
-
-abbrev pub decreases-loop-i : goal.decreases-loop-i
-decreases-loop-i l = l.i

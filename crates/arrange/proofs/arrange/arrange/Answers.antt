@@ -1,5 +1,5 @@
 -- The proof of arrange::arrange::arrange, by answers to its goals: the classes of the subsets below k stand at the front.
-use Rattle.std.proofs.Common.{arith, refl, ◌∙◌, ◌-◌}
+use Rattle.std.proofs.Common.{arith, refl, ◌∙◌}
 use Rattle.arrange.specs.ArrangeLaws as law
 use Rattle.arrange.proofs.arrange.arrange.Goals as goal
 
@@ -24,12 +24,6 @@ arrange_subset-filled-requires c =
       c.loop-k-test.true,
     ))
 
-pub overflow_add-k : goal.overflow_add-k
-overflow_add-k c = omega (arith, c.loop-k.invariant.1, c.loop-k-test.true)
-
-pub loop-k-smaller : goal.loop-k-smaller
-loop-k-smaller c = omega (arith, c.loop-k.invariant.1, c.loop-k-test.true)
-
 pub loop-k-preserved : goal.loop-k-preserved
 loop-k-preserved c = (
   c.arrange_subset-filled.auto.work ∙ c.loop-k.invariant.0,
@@ -49,4 +43,4 @@ pub returns : goal.returns
 returns c =
     λ d. let e = law.entered c.enter_all.auto.work c.enter_all.ensures d in
     let z = c.subsets-total.ensures d.grouping d.grouping_is in
-    law.arranging_end e c.loop-k.k (c.loop-k.invariant.2 d.grouping d.borne e z) (c.loop-k-test.false ∙ z)
+    law.arranging_end e c.loop-k.k (c.loop-k.invariant.2 d.grouping d.borne e z) (omega (arith, z, c.loop-k-test.false, c.loop-k.invariant.1))

@@ -1,6 +1,6 @@
 -- The proof of arrange::arrange::arrange_class, by answers to its goals: some trees are copied, and the links lead through
 -- those that are left.
-use Rattle.std.proofs.Common.{arith, refl, ◌∙◌, ◌-◌}
+use Rattle.std.proofs.Common.{arith, refl, ◌∙◌}
 use Rattle.arrange.specs.ClassLaws as law
 use Rattle.arrange.proofs.arrange.arrange_class.Goals as goal
 

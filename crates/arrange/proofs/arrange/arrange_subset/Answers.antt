@@ -1,5 +1,5 @@
 -- The proof of arrange::arrange::arrange_subset, by answers to its goals: some trees were asked, and some are left.
-use Rattle.std.proofs.Common.{arith, refl, sym, ◌∙◌, ◌-◌}
+use Rattle.std.proofs.Common.{arith, refl, sym, ◌∙◌}
 use Rattle.arrange.specs.SubsetLaws as law
 use Rattle.arrange.proofs.arrange.arrange_subset.Goals as goal
 

@@ -1,6 +1,6 @@
 -- The proof of build::behind::last_label, by answers to its goals: what is right from the label that was read last
 -- is right for all.
-use Rattle.std.proofs.Common.{arith, refl, ◌-◌}
+use Rattle.std.proofs.Common.{arith, refl}
 use Rattle.format.specs.StandLaws.{labels_places, holds_others}
 use Rattle.build.specs.BehindLaws.{last_all, last_end, last_next}
 use Rattle.build.proofs.behind.last_label.Goals as goal

@@ -1,6 +1,6 @@
 -- The proof of classes::fit::source_fits, by answers to its goals: what is right for the classes that are left is
 -- right for all.
-use Rattle.std.proofs.Common.{arith, refl, ◌-◌}
+use Rattle.std.proofs.Common.{arith, refl}
 use Rattle.classes.specs.FitLaws.{fit_begin, fit_end, fit_places, fit_ends, fit_walk, fit_less, fit_stop, fit_again}
 use Rattle.classes.proofs.fit.source_fits.Goals as goal
 

@@ -1,6 +1,6 @@
 -- The proof of classes::fit::totals_fit, by answers to its goals: what is right for the pairs from `at` on is right for
 -- all.
-use Rattle.std.proofs.Common.{arith, refl, ◌-◌}
+use Rattle.std.proofs.Common.{arith, refl}
 use Rattle.spec_queries.specs.Bytes.{pair_f}
 use Rattle.queries.specs.PartLaws.{list_places, list_first, list_rest}
 use Rattle.classes.specs.FitLaws.{pairs_end, pairs_not, pairs_next}

@@ -1,6 +1,6 @@
 -- The proof of classes::read::class_end, by answers to its goals: what is right for the trees that are left
 -- is right for all.
-use Rattle.std.proofs.Common.{refl, sym, ◌∙◌, ◌-◌, arith}
+use Rattle.std.proofs.Common.{refl, sym, ◌∙◌, arith}
 use Rattle.classes.specs.ReadLaws as law
 use Rattle.classes.proofs.read.class_end.Goals as goal
 

@@ -1,5 +1,5 @@
 use Rattle.std.proofs.Common.{◌-◌}
-use Rattle.classes.specs.declared.read.Reached.{Reached}
+use Rattle.key_index.specs.declared.front.Reached.{Reached}
 use Rattle.classes.specs.Read.{reached, EndReady, EndIs}
 use Rattle.classes.proofs.read.class_end.Given as goal
 

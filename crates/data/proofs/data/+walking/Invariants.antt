@@ -1,7 +1,7 @@
 use Rattle.std.proofs.Common.{◌≡◌, List, false, ℕ, ◌+◌, ◌*◌, ◌-◌, ◌≤◌, length, take}
 use Rattle.format.specs.Stand.{trees_bytes}
 use Rattle.areas.specs.Area.{span}
-use Rattle.data.specs.declared.value.Value.{Value}
+use Rattle.data.specs.Value.{Value}
 use Rattle.paths.specs.Walk.{TellsJoined}
 use Rattle.data.specs.Write.{WalkReady, WroteParts}
 use Rattle.data.proofs.data.+walking.Given as goal

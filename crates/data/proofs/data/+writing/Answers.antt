@@ -1,10 +1,12 @@
 -- The proof of the cycle of data::data that writes data, by answers to its goals: nesting left falls, and what is
 -- right for the members from `at` on, behind what was written, is right for all.
-use Rattle.std.proofs.Common.{arith, refl, sym, ◌∙◌, false, ◌-◌}
+use Rattle.std.proofs.Common.{Ok, Err, rules, ap, arith, refl, ◌∙◌}
 use Rattle.queries.specs.PartLaws.{holds_of}
-use Rattle.data.specs.declared.value.Value.{Value}
+use Rattle.data.specs.ValueLaws.{ok_small, err_large, ok_end, ok_found, large_on}
 use Rattle.data.specs.WriteDataLaws.{left_some, literal_places, path_ready, listed_ready, test_ready, choice_judged, choice_first, choice_second, reduced_ready, gives_literal, gives_path, gives_listed, gives_test, gives_first, gives_second, gives_reduced, list_done, list_places, list_first, list_rest, list_stop, list_next}
 use Rattle.data.proofs.data.+writing.Goals as goal
+use Rattle.std.specs.Prelude.{Err}
+use Rattle.areas.specs.Area.{too_large}
 
 pub write_data-data_at-x-requires : goal.write_data-data_at-x-requires
 write_data-data_at-x-requires t c = holds_of c.requires.asked
@@ -99,20 +101,19 @@ write_list-field_end-m-requires t c =
           c.args.tree.to c.loop-at.to c.args.room.to c.args.left c.loop-at-test.true refl c.loop-at.invariant.0,
     )
 
-pub write_list-write_data-r-requires : goal.write_list-write_data-r-requires
-write_list-write_data-r-requires t c = (
+pub write_list-write_data-requires : goal.write_list-write_data-requires
+write_list-write_data-requires t c = (
   omega (arith, c.decreases),
   list_first c.args.query.now c.loop-at.at c.args.members.to c.loop-at.work
       c.args.tree.from c.args.tree.to c.loop-at.to c.args.room.to c.args.left c.loop-at-test.true c.field_end-m.ensures
       c.loop-at.invariant.0,
 )
 
-pub write_list-returns-then-is_large : goal.write_list-returns-then-is_large
-write_list-returns-then-is_large t c =
-    c.loop-at.invariant.2 c.write_data-r.new.work Value.TooLarge (list_stop c.args.query.now c.loop-at.at
+pub write_list-returns-in_err-one : goal.write_list-returns-in_err-one
+write_list-returns-in_err-one t c =
+    rw (large_on _ c.from_residual.result c.from_residual.ensures.1) (c.loop-at.invariant.2 c.write_data.new.work (Err too_large) (list_stop c.args.query.now c.loop-at.at
     c.args.members.to c.loop-at.work c.args.tree.from c.args.tree.to c.loop-at.to c.args.room.to c.args.left
-    c.loop-at-test.true c.field_end-m.ensures c.loop-at.any c.write_data-r.ensures (sym c.is_large.ensures ∙
-    c.if-is_large.true))
+    c.loop-at-test.true c.field_end-m.ensures c.loop-at.any c.write_data.ensures (err_large c.in_err-one.was)))
 
 pub write_list-loop-at-smaller : goal.write_list-loop-at-smaller
 write_list-loop-at-smaller t c =
@@ -127,21 +128,21 @@ pub write_list-loop-at-preserved : goal.write_list-loop-at-preserved
 write_list-loop-at-preserved t c = (
   list_rest c.args.query.now c.loop-at.at c.args.members.to c.loop-at.work c.args.tree.from c.args.tree.to
       c.loop-at.to c.args.room.to c.args.left c.loop-at-test.true c.field_end-m.ensures c.loop-at.invariant.0
-      c.write_data-r.ensures c.end_of-to.ensures c.write_data-r.auto.work,
-  c.write_data-r.auto.work ∙
+      c.write_data.ensures (ok_end c.loop-at.to c.in_ok-one.was c.unwrap_or-to.ensures) c.write_data.auto.work,
+  c.write_data.auto.work ∙
       c.loop-at.invariant.1,
   λ u r h. c.loop-at.invariant.2 u r (list_next c.args.query.now c.loop-at.at c.args.members.to
       c.loop-at.work c.args.tree.from c.args.tree.to c.loop-at.to c.args.room.to c.args.left c.loop-at-test.true
-      c.field_end-m.ensures c.loop-at.any c.write_data-r.ensures (omega (
+      c.field_end-m.ensures c.loop-at.any c.write_data.ensures (omega (
         arith,
         c.loop-at.invariant.0.room,
         c.loop-at.invariant.0.area,
-      )) c.loop-at.invariant.0.below (sym c.is_large.ensures ∙ c.if-is_large.false)
-      c.end_of-to.ensures c.found_of-any.ensures u r h),
+      )) c.loop-at.invariant.0.below (ok_small c.in_ok-one.was)
+      (ok_end c.loop-at.to c.in_ok-one.was c.unwrap_or-to.ensures) (ok_found c.loop-at.any c.in_ok-one.was (search rules)) u r h),
 )
 
 pub write_list-returns : goal.write_list-returns
 write_list-returns t c =
-    c.loop-at.invariant.2 c.loop-at.work c.answer_of.result (list_done c.args.query.now c.loop-at.at c.args.members.to
+    c.loop-at.invariant.2 c.loop-at.work (Ok c.then_some.result) (list_done c.args.query.now c.loop-at.at c.args.members.to
     c.loop-at.work c.args.tree.from c.args.tree.to c.loop-at.to c.args.room.to c.args.left c.loop-at.any
-    c.answer_of.ensures c.loop-at-test.false c.loop-at.invariant.0.room)
+    (ap Ok c.then_some.ensures) c.loop-at-test.false c.loop-at.invariant.0.room)

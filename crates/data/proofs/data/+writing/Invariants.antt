@@ -1,7 +1,7 @@
 use Rattle.std.proofs.Common.{◌≡◌, List, false, ℕ, ◌+◌, ◌*◌, ◌-◌, length}
 use Rattle.areas.specs.Area.{span}
 use Rattle.queries.specs.Places.{datas_bytes}
-use Rattle.data.specs.declared.value.Value.{Value}
+use Rattle.data.specs.Value.{Value}
 use Rattle.data.specs.Write.{DataReady, Gives, NestedDs, listed_from}
 use Rattle.data.proofs.data.+writing.Given as goal
 

@@ -5,15 +5,15 @@ use Rattle.finish.proofs.lines.write_positions.Goals as goal
 
 pub overflow_sub-n : goal.overflow_sub-n
 overflow_sub-n c =
-    let low = (entries_ready c.in-Accepted.is c.requires).0 in
+    let low = (entries_ready c.in-Ok.is c.requires).0 in
     omega (arith, low)
 
 pub write_entries-requires : goal.write_entries-requires
 write_entries-requires c =
-    ((entries_ready c.in-Accepted.is c.requires).1, (entries_ready c.in-Accepted.is c.requires).2)
+    ((entries_ready c.in-Ok.is c.requires).1, (entries_ready c.in-Ok.is c.requires).2)
 
-pub returns-in-Accepted : goal.returns-in-Accepted
-returns-in-Accepted c = entries_lines c.in-Accepted.is c.write_entries.ensures
+pub returns-in-Ok : goal.returns-in-Ok
+returns-in-Ok c = entries_lines c.in-Ok.is c.write_entries.ensures
 
-pub returns-in-Refused : goal.returns-in-Refused
-returns-in-Refused c = refused_lines c.args.positions.now c.in-Refused.is c.clear_entries.ensures
+pub returns-in-Err : goal.returns-in-Err
+returns-in-Err c = refused_lines c.args.positions.now c.in-Err.is c.clear_entries.ensures

@@ -1,6 +1,6 @@
 -- The proof of first_stretch::first::feed_trees, by answers to its goals: what is right for the trees that are left is right
 -- for all.
-use Rattle.std.proofs.Common.{refl, sym, ◌∙◌, ◌-◌, arith}
+use Rattle.std.proofs.Common.{refl, sym, ◌∙◌, arith}
 use Rattle.first_stretch.specs.FirstLaws.{first_begin, first_lent, first_back, first_end, first_places, first_tree, first_since, first_stop, first_again}
 use Rattle.first_stretch.proofs.first.feed_trees.Goals as goal
 

@@ -1,5 +1,5 @@
 -- `check::check_rest`: what holds from a place holds from the start. Depth left falls where a tree's labels are entered.
-use Rattle.std.proofs.Common.{rules, sym, ◌∙◌, ◌-◌}
+use Rattle.std.proofs.Common.{rules, sym, ◌∙◌}
 use Rattle.format.specs.CheckLaws.{step_on, step_inward, step_done, step_bad, inward_good, inward_bad}
 use Rattle.format.proofs.check.+check_rest.Goals as goal
 

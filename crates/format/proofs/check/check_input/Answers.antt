@@ -6,13 +6,13 @@ use Rattle.format.proofs.check.check_input.Goals as goal
 
 pub check_array_field-requires : goal.check_array_field-requires
 check_array_field-requires c =
-    let f = span_found c.args.bytes.now 0 (length c.args.bytes.now) (omega arith) _ _ _ (sym c.spanning-h.ensures ∙
-    c.in-Field.is) in
+    let f = span_found c.args.bytes.now 0 (length c.args.bytes.now) (omega arith) _ _ _ (sym c.spanning.ensures ∙
+    c.in-Some.is) in
     search rules
 
-pub returns-in-Field : goal.returns-in-Field
-returns-in-Field c =
-    c.check_array_field.ensures ∙ sym (input_field c.args.bytes.now _ _ _ (sym c.spanning-h.ensures ∙ c.in-Field.is))
+pub returns-in-Some : goal.returns-in-Some
+returns-in-Some c =
+    c.check_array_field.ensures ∙ sym (input_field c.args.bytes.now _ _ _ (sym c.spanning.ensures ∙ c.in-Some.is))
 
-pub returns-in-Nothing : goal.returns-in-Nothing
-returns-in-Nothing c = sym (input_nothing c.args.bytes.now (sym c.spanning-h.ensures ∙ c.in-Nothing.is))
+pub returns-in-None : goal.returns-in-None
+returns-in-None c = sym (input_nothing c.args.bytes.now (sym c.spanning.ensures ∙ c.in-None.is))

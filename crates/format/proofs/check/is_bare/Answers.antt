@@ -16,5 +16,5 @@ returns-then-low_four-len c =
 pub returns : goal.returns
 returns c =
     λ e. bare_at c.args.area.now c.args.at c.args.stop c.args.tag c.args.len c.requires.1 c.requires.0 c.requires.3 (λ
-    i. omega (arith, c.shared_slice_known-1.given i)) c.if-stop-at.false (sym c.low_four.ensures ∙
+    i. omega (arith, c.type_inv.area i)) c.if-stop-at.false (sym c.low_four.ensures ∙
     c.if-low_four-len.false) (sym c.low_two.ensures.0 ∙ eqb-true _ _ e)

@@ -1,6 +1,6 @@
 -- The proof of the cycle of format::depth, by answers to its goals: a tree takes one level from what is left, and
 -- what is right from i on is right for all.
-use Rattle.std.proofs.Common.{arith, refl, ◌-◌}
+use Rattle.std.proofs.Common.{arith, refl}
 use Rattle.format.specs.StandLaws.{labels_places, trees_places, tree_places, holds_array, holds_others, holds_first, holds_rest, holds_labels}
 use Rattle.format.specs.DepthLaws.{trees_end, trees_short, no_level, trees_deep, trees_next, labels_end, labels_deep, labels_next}
 use Rattle.format.proofs.depth.+nesting.Goals as goal

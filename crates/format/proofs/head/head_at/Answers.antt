@@ -1,4 +1,4 @@
--- `head::head_at`: each return is a case of `headAt`.
+-- `head::head_at`: each return is a case of `head_at`.
 use Rattle.std.proofs.Common.{arith, ◌+◌, ◌≤◌, ◌<◌, sym}
 use Rattle.format.specs.HeadLaws.{head_short, head_over, head_field}
 use Rattle.format.proofs.head.head_at.Goals as goal

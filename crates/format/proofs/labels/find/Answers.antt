@@ -1,5 +1,5 @@
 -- The proof of format::labels::find, by answers to its goals: what is right for the labels from `at` on is right for all.
-use Rattle.std.proofs.Common.{arith, refl, sym, ap, ◌∙◌, ◌+◌, ◌-◌}
+use Rattle.std.proofs.Common.{arith, refl, sym, ap, ◌∙◌, ◌+◌}
 use Rattle.format.specs.StandLaws.{heads_most, labels_places, holds_others}
 use Rattle.format.specs.LabelLaws.{finds_none, finds_here, finds_next}
 use Rattle.format.proofs.labels.find.Goals as goal

@@ -1,8 +1,8 @@
 use Rattle.std.proofs.Common.{◌-◌}
 use Rattle.areas.specs.Area.{span}
-use Rattle.format.specs.declared.labels.Found.{Found}
 use Rattle.format.specs.Stand.{labels_bytes, Holds, Finds}
 use Rattle.format.proofs.labels.find.Given as goal
+use Rattle.format.specs.Labels.{Found}
 
 abbrev pub invariant-loop-at : goal.invariant-loop-at
 invariant-loop-at l =

@@ -1,6 +1,5 @@
 use Rattle.std.proofs.Common.{◌≡◌, List, ℕ, ◌-◌, length}
-use Rattle.areas.specs.declared.area.Out.{Out}
-use Rattle.areas.specs.Area.{span}
+use Rattle.areas.specs.Area.{span, Out}
 use Rattle.group.specs.Grow.{one_part, aggregate_value, Fits, ClassAt, PairsReady, PairsGrow}
 use Rattle.group.proofs.class.add_aggregates.Given as goal
 

@@ -1,6 +1,6 @@
 -- The proof of group_stretch::regroup::regroup, by answers to its goals: what is right for the classes that are left
 -- is right for all.
-use Rattle.std.proofs.Common.{arith, refl, sym, ◌∙◌, ◌-◌}
+use Rattle.std.proofs.Common.{arith, refl, sym, ◌∙◌}
 use Rattle.group_stretch.specs.GroupLaws as law
 use Rattle.group_stretch.proofs.regroup.regroup.Goals as goal
 

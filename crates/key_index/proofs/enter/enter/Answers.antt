@@ -1,5 +1,5 @@
 -- The proof of key_index::enter::enter, by answers to its goals.
-use Rattle.std.proofs.Common.{arith, ap, ◌∙◌}
+use Rattle.std.proofs.Common.{arith, refl, ap, ◌∙◌}
 use Rattle.areas.specs.Number.{two_at}
 use Rattle.key_index.specs.Index.{base}
 use Rattle.areas.specs.NumberLaws.{put}
@@ -47,21 +47,11 @@ link-requires c = (
     c.put_two-3.auto.work,
     c.put_two-4.auto.work,
   ),
-  (law.like_places c.requires (c.last_like-like.ensures (record {
+  law.found_places c.requires (c.last_like-like.ensures (record {
     entering = c.requires;
     last_is = c.two_at-last.ensures.0 ∙ ap (two_at c.args.work.now) (c.head_of-head.ensures.2 c.requires.grouping
         c.requires.tree c.requires.grouping_is c.requires.tree_is);
-  }))).0,
-  omega (
-    arith,
-    (places c.requires),
-    (law.like_places c.requires (c.last_like-like.ensures (record {
-      entering = c.requires;
-      last_is =
-          c.two_at-last.ensures.0 ∙ ap (two_at c.args.work.now) (c.head_of-head.ensures.2 c.requires.grouping c.requires.tree
-          c.requires.grouping_is c.requires.tree_is);
-    }))).1,
-  ),
+  })),
   omega (arith, (places c.requires)),
 )
 
@@ -77,12 +67,12 @@ count-requires c = (
     c.link.auto.work,
   ),
   law.count_small c.requires (c.head_of-head.ensures.2 c.requires.grouping
-      c.requires.tree c.requires.grouping_is c.requires.tree_is) c.two_at-last.ensures.0 (c.last_like-like.ensures (record {
+      c.requires.tree c.requires.grouping_is c.requires.tree_is) c.two_at-last.ensures.0 refl (c.mark_of-mark.ensures.1
+      c.requires.grouping c.requires.tree c.requires.grouping_is c.requires.tree_is _ (c.last_like-like.ensures (record {
         entering = c.requires;
         last_is = c.two_at-last.ensures.0 ∙ ap (two_at c.args.work.now) (c.head_of-head.ensures.2
             c.requires.grouping c.requires.tree c.requires.grouping_is c.requires.tree_is);
-      })) (c.mark_of-mark.ensures.1
-      c.requires.grouping c.requires.tree c.requires.grouping_is c.requires.tree_is) (put {n = c.two_at-last.result}
+      }))) (put {n = c.two_at-last.result}
       (omega (arith, (places c.requires))) c.put_two.ensures) (put {n = 0} (omega (
         arith,
         (places c.requires),
@@ -101,12 +91,20 @@ count-requires c = (
         c.put_two-2.auto.work,
         c.put_two-3.auto.work,
       ))
-      c.put_two-4.ensures) c.link.ensures,
+      c.put_two-4.ensures) (c.link.ensures _ (c.last_like-like.ensures (record {
+        entering = c.requires;
+        last_is = c.two_at-last.ensures.0 ∙ ap (two_at c.args.work.now) (c.head_of-head.ensures.2
+            c.requires.grouping c.requires.tree c.requires.grouping_is c.requires.tree_is);
+      }))),
 )
 
 pub returns : goal.returns
 returns c =
-    law.enters (c.count.ensures.beyond ∙ c.link.ensures.beyond ∙ (put {n = c.args.tree.from} (omega (
+    law.enters (c.count.ensures.beyond ∙ (c.link.ensures _ (c.last_like-like.ensures (record {
+      entering = c.requires;
+      last_is = c.two_at-last.ensures.0 ∙ ap (two_at c.args.work.now) (c.head_of-head.ensures.2
+          c.requires.grouping c.requires.tree c.requires.grouping_is c.requires.tree_is);
+    }))).beyond ∙ (put {n = c.args.tree.from} (omega (
       arith,
       (places
           c.requires),
@@ -120,11 +118,11 @@ returns c =
     (arith, (places c.requires))) ∙ (put {n = 0} (omega (arith, (places c.requires), c.put_two.auto.work))
     c.put_two-2.ensures).beyond base (omega (arith, (places c.requires))) ∙ (put {n = c.two_at-last.result} (omega
     (arith, (places c.requires))) c.put_two.ensures).beyond base (omega (arith, (places c.requires)))) (λ e. let h =
-    c.head_of-head.ensures.2 e.grouping e.tree e.grouping_is e.tree_is in let l = c.two_at-last.ensures.0 in
-    law.index_grown e h l (c.last_like-like.ensures (record {
+    c.head_of-head.ensures.2 e.grouping e.tree e.grouping_is e.tree_is in let l = c.two_at-last.ensures.0 in let n = (c.last_like-like.ensures (record {
       entering = e;
       last_is = l ∙ ap (two_at c.args.work.now) h;
-    })) (c.mark_of-mark.ensures.1 e.grouping e.tree e.grouping_is e.tree_is) (put {n = c.two_at-last.result} (omega
+    })) in
+    law.index_grown e h l refl (c.mark_of-mark.ensures.1 e.grouping e.tree e.grouping_is e.tree_is _ n) (put {n = c.two_at-last.result} (omega
     (arith, (places c.requires))) c.put_two.ensures) (put {n = 0} (omega (
       arith,
       (places c.requires),
@@ -143,4 +141,4 @@ returns c =
       c.put_two-2.auto.work,
       c.put_two-3.auto.work,
     ))
-    c.put_two-4.ensures) c.link.ensures c.count.ensures)
+    c.put_two-4.ensures) (c.link.ensures _ n) c.count.ensures)

@@ -1,5 +1,5 @@
 -- The proof of key_index::enter::enter_all, by answers to its goals: some trees are entered, and some are left.
-use Rattle.std.proofs.Common.{arith, refl, ◌∙◌, ◌-◌}
+use Rattle.std.proofs.Common.{arith, refl, ◌∙◌}
 use Rattle.key_index.specs.AllLaws as law
 use Rattle.key_index.proofs.enter.enter_all.Goals as goal
 

@@ -20,8 +20,8 @@ same_key-requires c = (
 
 pub returns-then-same_key : goal.returns-then-same_key
 returns-then-same_key c =
-    λ s. law.search_found s (c.loop-at.invariant s) c.loop-at-test.true c.field_end.ensures c.same_key.ensures
-    c.if-same_key.true
+    λ s. law.noted_some (law.search_found s (c.loop-at.invariant s) c.loop-at-test.true c.field_end.ensures
+    c.same_key.ensures c.if-same_key.true) c.loop-at-test.true
 
 pub overflow_sub-at : goal.overflow_sub-at
 overflow_sub-at c = omega (arith, law.other_places c.requires (c.loop-at.invariant c.requires) c.loop-at-test.true)
@@ -39,4 +39,4 @@ loop-at-preserved c =
     c.same_key.ensures c.if-same_key.false)
 
 pub returns : goal.returns
-returns c = λ s. law.search_none s (c.loop-at.invariant s) c.loop-at-test.false
+returns c = λ s. law.noted_none (law.search_none s (c.loop-at.invariant s) c.loop-at-test.false)

@@ -1,14 +1,12 @@
-use Rattle.std.proofs.Common.{ℕ, ◌*◌, ◌-◌}
+use Rattle.std.proofs.Common.{ℕ, ◌*◌}
 use Rattle.areas.specs.Area.{span}
+use Rattle.format.specs.Fields.{Going}
 use Rattle.queries.specs.Places.{pairs_bytes, HoldsOk}
 use Rattle.keys.specs.KeyLaws.{WeightFits}
 use Rattle.keys.specs.Keys.{SubsetsIs}
 use Rattle.keys.proofs.key.subsets.Given as goal
 
-abbrev pub invariant-loop-at : goal.invariant-loop-at
-invariant-loop-at l =
-    HoldsOk (WeightFits l.n) pairs_bytes l.query l.at l.end × ((c : ℕ) → SubsetsIs l.query (span l.at l.end) c →
-    SubsetsIs l.query (span l.initial.at l.end) (l.n * c))
-
-abbrev pub decreases-loop-at : goal.decreases-loop-at
-decreases-loop-at l = l.end - l.at
+abbrev pub invariant-loop-pair : goal.invariant-loop-pair
+invariant-loop-pair l =
+    Going l.query l.fn.keys.to (λ at. HoldsOk (WeightFits l.n) pairs_bytes l.query at l.fn.keys.to × ((c : ℕ) → SubsetsIs l.query (span at l.fn.keys.to) c →
+    SubsetsIs l.query l.fn.keys (l.n * c))) l._pair-iterator

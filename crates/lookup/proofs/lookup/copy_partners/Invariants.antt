@@ -1,7 +1,6 @@
 use Rattle.std.proofs.Common.{◌≡◌, List, ℕ, ◌-◌, length}
-use Rattle.areas.specs.declared.area.Out.{Out}
 use Rattle.spec_trees.specs.Within.{AllowedA}
-use Rattle.areas.specs.Area.{span}
+use Rattle.areas.specs.Area.{span, Out}
 use Rattle.queries.specs.Places.{array_trees}
 use Rattle.lookup.specs.Lookup.{Matching, CopiesPartners}
 use Rattle.lookup.proofs.lookup.copy_partners.Given as goal

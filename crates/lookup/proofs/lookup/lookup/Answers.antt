@@ -2,6 +2,7 @@
 use Rattle.std.proofs.Common.{arith}
 use Rattle.build.specs.MadeLaws.{target_along, target_room}
 use Rattle.lookup.specs.LookupLaws.{lookup_matching, lookup_value, lookup_adding, lookup_made}
+use Rattle.data.specs.ValueLaws.{mapped}
 use Rattle.lookup.proofs.lookup.lookup.Goals as goal
 
 pub heads_room-n-requires : goal.heads_room-n-requires
@@ -17,14 +18,14 @@ copy_partners-all-requires c = lookup_matching c.requires c.heads_room-n.ensures
 pub place_value-placed-requires : goal.place_value-placed-requires
 place_value-placed-requires c =
     lookup_value c.requires c.heads_room-n.ensures c.copy_partners-all.auto.work c.copy_partners-all.ensures
-    c.value_of.ensures
+    (mapped c.copy_partners-all.result c.map.result c.map.ensures.cases)
 
 pub add_written-requires : goal.add_written-requires
 add_written-requires c =
     lookup_adding c.requires c.heads_room-n.ensures c.copy_partners-all.auto.work c.copy_partners-all.ensures
-    c.value_of.ensures c.place_value-placed.auto.work c.place_value-placed.ensures
+    (mapped c.copy_partners-all.result c.map.result c.map.ensures.cases) c.place_value-placed.auto.work c.place_value-placed.ensures
 
 pub returns : goal.returns
 returns c =
     lookup_made c.requires c.heads_room-n.ensures c.copy_partners-all.auto.work c.copy_partners-all.ensures
-    c.value_of.ensures c.place_value-placed.auto.work c.place_value-placed.ensures c.add_written.ensures
+    (mapped c.copy_partners-all.result c.map.result c.map.ensures.cases) c.place_value-placed.auto.work c.place_value-placed.ensures c.add_written.ensures

@@ -1,10 +1,11 @@
 -- The proof of the cycle of stages::merge, by answers to its goals: a tree, its labels, a first label, a label in
 -- both, two arrays. The places move up; between two moves the functions have a rank. What is right for the rest is
 -- right for the whole.
-use Rattle.std.proofs.Common.{arith, refl, ◌∙◌, ◌-◌}
+use Rattle.std.proofs.Common.{arith, refl, ◌∙◌}
 use Rattle.format.specs.StandLaws.{heads_most, tree_places, labels_places, trees_places}
 use Rattle.merge.specs.MergeBytesLaws.{first_copied, second_copied, turn_fail, turn_next, turn_ready, tree_no_room, ready_root, tree_fail, ready_labels, tree_finishable, tree_done, labels_first_none, labels_second_none, ready_first, labels_turn, places_move, places_fall, entry_places, entry_heads, entry_trees_at, first_less, first_more, entry_both, entry_no_room, ready_arrays, array_finishable, entry_finishable, entry_done, trees_first_none, trees_second_none, ready_node, trees_turn}
 use Rattle.merge.proofs.merge.+merging.Goals as goal
+use Rattle.areas.specs.AreaLaws.{handed_on}
 
 pub merge_entry-label_at-requires : goal.merge_entry-label_at-requires
 merge_entry-label_at-requires t c = omega (arith, (entry_places c.requires.first))
@@ -198,8 +199,8 @@ merge_labels-label_at-x-requires t c = omega (arith, (labels_places c.loop-p.inv
 pub merge_labels-label_at-y-requires : goal.merge_labels-label_at-y-requires
 merge_labels-label_at-y-requires t c = omega (arith, (labels_places c.loop-p.invariant.3.second c.if-q-end2.false refl))
 
-pub merge_labels-merge_first-first-requires : goal.merge_labels-merge_first-first-requires
-merge_labels-merge_first-first-requires t c = (
+pub merge_labels-merge_first-requires : goal.merge_labels-merge_first-requires
+merge_labels-merge_first-requires t c = (
   omega (
     arith,
     c.decreases,
@@ -210,11 +211,11 @@ merge_labels-merge_first-first-requires t c = (
       c.field_end-m.ensures c.field_end-n.ensures c.loop-p-test.true c.if-q-end2.false c.loop-p.invariant.3,
 )
 
-pub merge_labels-returns-in_default : goal.merge_labels-returns-in_default
-merge_labels-returns-in_default t c =
-    c.loop-p.invariant.4 c.merge_first-first.new.work _ (turn_fail (labels_turn c.field_end-m.ensures
+pub merge_labels-returns-in_err-e : goal.merge_labels-returns-in_err-e
+merge_labels-returns-in_err-e t c =
+    rw (handed_on _ c.from_residual.result c.from_residual.ensures.1) (c.loop-p.invariant.4 c.merge_first.new.work _ (turn_fail (labels_turn c.field_end-m.ensures
     c.field_end-n.ensures c.loop-p-test.true c.if-q-end2.false c.label_at-x.ensures c.label_at-y.ensures refl refl
-    c.merge_first-first.ensures) c.in_default.is)
+    c.merge_first.ensures) c.in_err-e.was))
 
 pub merge_labels-loop-p-smaller : goal.merge_labels-loop-p-smaller
 merge_labels-loop-p-smaller t c =
@@ -237,15 +238,15 @@ merge_labels-loop-p-preserved t c =
     ))) in (
       omega (arith, c.choose-p.ensures),
       omega (arith, c.choose-q.ensures),
-      c.merge_first-first.auto.work ∙
+      c.merge_first.auto.work ∙
           c.loop-p.invariant.2,
       turn_ready (labels_turn c.field_end-m.ensures c.field_end-n.ensures c.loop-p-test.true
           c.if-q-end2.false c.label_at-x.ensures c.label_at-y.ensures c.choose-p.ensures c.choose-q.ensures
-          c.merge_first-first.ensures) c.loop-p.invariant.3 c.in-At.is c.merge_first-first.auto.work,
+          c.merge_first.ensures) c.loop-p.invariant.3 c.in_ok-e.was c.merge_first.auto.work,
       λ u r h.
           c.loop-p.invariant.4 u r (turn_next (labels_turn c.field_end-m.ensures c.field_end-n.ensures c.loop-p-test.true
           c.if-q-end2.false c.label_at-x.ensures c.label_at-y.ensures c.choose-p.ensures c.choose-q.ensures
-          c.merge_first-first.ensures) c.loop-p.invariant.3 c.in-At.is h),
+          c.merge_first.ensures) c.loop-p.invariant.3 c.in_ok-e.was h),
     )
 
 pub merge_labels-returns : goal.merge_labels-returns
@@ -273,14 +274,14 @@ merge_node-field_end-m-requires t c = omega (arith, (tree_places c.requires.firs
 pub merge_node-field_end-n-requires : goal.merge_node-field_end-n-requires
 merge_node-field_end-n-requires t c = omega (arith, (tree_places c.requires.second refl))
 
-pub merge_node-merge_root-root-requires : goal.merge_node-merge_root-root-requires
-merge_node-merge_root-root-requires t c =
+pub merge_node-merge_root-requires : goal.merge_node-merge_root-requires
+merge_node-merge_root-requires t c =
     ready_root c.requires c.field_end-m.ensures c.field_end-n.ensures (omega arith)
 
-pub merge_node-returns-in_default : goal.merge_node-returns-in_default
-merge_node-returns-in_default t c =
-    tree_fail c.requires c.field_end-m.ensures c.field_end-n.ensures (omega arith) c.merge_root-root.ensures
-    c.in_default.is
+pub merge_node-returns-in_err-e : goal.merge_node-returns-in_err-e
+merge_node-returns-in_err-e t c =
+    rw (handed_on _ c.from_residual.result c.from_residual.ensures.1) (tree_fail c.requires c.field_end-m.ensures c.field_end-n.ensures (omega arith) c.merge_root.ensures
+    c.in_err-e.was)
 
 pub merge_node-merge_labels-all-requires : goal.merge_node-merge_labels-all-requires
 merge_node-merge_labels-all-requires t c = (
@@ -292,19 +293,19 @@ merge_node-merge_labels-all-requires t c = (
         c.field_end-n.ensures,
   ),
   ready_labels c.requires c.field_end-m.ensures c.field_end-n.ensures (omega arith)
-      c.merge_root-root.ensures c.in-At.is c.merge_root-root.auto.work,
+      c.merge_root.ensures c.in_ok-e.was c.merge_root.auto.work,
 )
 
 pub merge_node-finish-requires : goal.merge_node-finish-requires
 merge_node-finish-requires t c = (
-  tree_finishable c.requires c.field_end-m.ensures c.field_end-n.ensures (omega arith) c.merge_root-root.ensures
-      c.in-At.is c.merge_labels-all.ensures (c.merge_labels-all.auto.work ∙ c.merge_root-root.auto.work),
+  tree_finishable c.requires c.field_end-m.ensures c.field_end-n.ensures (omega arith) c.merge_root.ensures
+      c.in_ok-e.was c.merge_labels-all.ensures (c.merge_labels-all.auto.work ∙ c.merge_root.auto.work),
   omega arith,
 )
 
 pub merge_node-returns : goal.merge_node-returns
 merge_node-returns t c =
-    tree_done c.requires c.field_end-m.ensures c.field_end-n.ensures (omega arith) c.merge_root-root.ensures c.in-At.is
+    tree_done c.requires c.field_end-m.ensures c.field_end-n.ensures (omega arith) c.merge_root.ensures c.in_ok-e.was
     c.merge_labels-all.ensures c.finish.ensures
 
 pub merge_trees-loop-a-init : goal.merge_trees-loop-a-init
@@ -321,8 +322,8 @@ merge_trees-field_end-m-requires t c = omega (arith, (trees_places c.loop-a.inva
 pub merge_trees-field_end-n-requires : goal.merge_trees-field_end-n-requires
 merge_trees-field_end-n-requires t c = omega (arith, (trees_places c.loop-a.invariant.3.second c.if-b-end2.false refl))
 
-pub merge_trees-merge_node-first-requires : goal.merge_trees-merge_node-first-requires
-merge_trees-merge_node-first-requires t c = (
+pub merge_trees-merge_node-requires : goal.merge_trees-merge_node-requires
+merge_trees-merge_node-requires t c = (
   omega (
     arith,
     c.decreases,
@@ -333,10 +334,10 @@ merge_trees-merge_node-first-requires t c = (
       c.field_end-m.ensures c.field_end-n.ensures c.loop-a-test.true c.if-b-end2.false c.loop-a.invariant.3,
 )
 
-pub merge_trees-returns-in_default : goal.merge_trees-returns-in_default
-merge_trees-returns-in_default t c =
-    c.loop-a.invariant.4 c.merge_node-first.new.work _ (turn_fail (trees_turn c.field_end-m.ensures
-    c.field_end-n.ensures c.loop-a-test.true c.if-b-end2.false c.merge_node-first.ensures) c.in_default.is)
+pub merge_trees-returns-in_err-e : goal.merge_trees-returns-in_err-e
+merge_trees-returns-in_err-e t c =
+    rw (handed_on _ c.from_residual.result c.from_residual.ensures.1) (c.loop-a.invariant.4 c.merge_node.new.work _ (turn_fail (trees_turn c.field_end-m.ensures
+    c.field_end-n.ensures c.loop-a-test.true c.if-b-end2.false c.merge_node.ensures) c.in_err-e.was))
 
 pub merge_trees-loop-a-smaller : goal.merge_trees-loop-a-smaller
 merge_trees-loop-a-smaller t c =
@@ -349,13 +350,13 @@ merge_trees-loop-a-preserved t c = (
     arith,
     (trees_places c.loop-a.invariant.3.second c.if-b-end2.false c.field_end-n.ensures),
   ),
-  c.merge_node-first.auto.work ∙
+  c.merge_node.auto.work ∙
       c.loop-a.invariant.2,
   turn_ready (trees_turn c.field_end-m.ensures c.field_end-n.ensures c.loop-a-test.true
-      c.if-b-end2.false c.merge_node-first.ensures) c.loop-a.invariant.3 c.in-At.is c.merge_node-first.auto.work,
+      c.if-b-end2.false c.merge_node.ensures) c.loop-a.invariant.3 c.in_ok-e.was c.merge_node.auto.work,
   λ u r h.
       c.loop-a.invariant.4 u r (turn_next (trees_turn c.field_end-m.ensures c.field_end-n.ensures c.loop-a-test.true
-      c.if-b-end2.false c.merge_node-first.ensures) c.loop-a.invariant.3 c.in-At.is h),
+      c.if-b-end2.false c.merge_node.ensures) c.loop-a.invariant.3 c.in_ok-e.was h),
 )
 
 pub merge_trees-returns : goal.merge_trees-returns

@@ -1,6 +1,5 @@
 use Rattle.std.proofs.Common.{◌≡◌, List, ℕ, ◌+◌, ◌*◌, ◌-◌, ◌≤◌, length}
-use Rattle.areas.specs.declared.area.Out.{Out}
-use Rattle.areas.specs.Area.{span}
+use Rattle.areas.specs.Area.{span, Out}
 use Rattle.format.specs.Stand.{labels_bytes, trees_bytes}
 use Rattle.spec_stages.specs.MergeTwo.{merge_two_l, merge_two_a}
 use Rattle.merge.specs.MergeBytes.{MergeReady, Merged}

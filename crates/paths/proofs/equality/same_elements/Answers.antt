@@ -1,5 +1,5 @@
 -- The proof of paths::equality::same_elements, by answers to its goals: the trees before j are the same.
-use Rattle.std.proofs.Common.{arith, sym, ◌∙◌, ◌-◌}
+use Rattle.std.proofs.Common.{arith, sym, ◌∙◌}
 use Rattle.spec_stages.specs.Paths.{apply}
 use Rattle.paths.specs.Walk.{given}
 use Rattle.paths.specs.EqualLaws.{elements_count, elements_other, elements_more, elements_all}

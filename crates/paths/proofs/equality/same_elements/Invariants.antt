@@ -1,4 +1,4 @@
-use Rattle.std.proofs.Common.{◌≡◌, ℕ, ◌-◌, ◌≤◌, ◌<◌, get_or}
+use Rattle.std.proofs.Common.{◌≡◌, ℕ, ◌≤◌, ◌<◌, get_or}
 use Rattle.spec_trees.specs.Tree.{bare_void}
 use Rattle.spec_trees.specs.Bytes.{tree_bytes}
 use Rattle.paths.specs.Walk.{given, TellsBoth}
@@ -8,6 +8,3 @@ abbrev pub invariant-loop-j : goal.invariant-loop-j
 invariant-loop-j l =
     (l.j ≤ l.n) × TellsBoth l.query l.area l.one l.area2 l.other (λ x y. (k : ℕ) → k < l.j → tree_bytes (get_or (given
     x) k bare_void) ≡ tree_bytes (get_or (given y) k bare_void))
-
-abbrev pub decreases-loop-j : goal.decreases-loop-j
-decreases-loop-j l = l.n - l.j

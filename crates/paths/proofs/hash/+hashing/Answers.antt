@@ -1,6 +1,6 @@
 -- The proof of the cycle of paths::hash that folds what a path gives, by answers to its goals: what is right for the
 -- trees from `at` on, with the number so far, is right for all.
-use Rattle.std.proofs.Common.{arith, ◌≡◌, refl, ◌∙◌, ◌-◌}
+use Rattle.std.proofs.Common.{arith, ◌≡◌, refl, ◌∙◌}
 use Rattle.queries.specs.StepLaws.{steps_fewer}
 use Rattle.paths.specs.Walk.{given}
 use Rattle.paths.specs.WalkLaws.{tells_end, tells_missing, tells_part, over_given, walk_inside, walk_room, walk_part, walk_first, walk_rest, walk_places, step_left}
@@ -60,8 +60,8 @@ hash_walk-returns-then-i-steps t c = (
       (hash_one c.args.number c.hash_tree.ensures.1),
 )
 
-pub hash_walk-under-found-requires : goal.hash_walk-under-found-requires
-hash_walk-under-found-requires t c =
+pub hash_walk-under-requires : goal.hash_walk-under-requires
+hash_walk-under-requires t c =
     (walk_inside c.requires.0 (step_left c.requires.0 c.steps.ensures c.if-i-steps.false), c.requires.0.stands)
 
 pub hash_walk-returns-in_default : goal.hash_walk-returns-in_default
@@ -69,7 +69,7 @@ hash_walk-returns-in_default t c = (
   c.requires.1,
   tells_missing c.args.query.now c.args.path c.args.i c.args.area.now c.args.tree.from c.args.tree.to
       (λ x. c.args.number ≡ trees_hash c.args.number (given x)) (step_left c.requires.0 c.steps.ensures
-      c.if-i-steps.false) c.under-found.ensures c.in_default.is (hash_none c.args.number),
+      c.if-i-steps.false) c.under.ensures c.in_default.is (hash_none c.args.number),
 )
 
 pub hash_walk-overflow_add-i : goal.hash_walk-overflow_add-i
@@ -92,7 +92,7 @@ hash_walk-hash_over-requires t c = (
   ),
   (
     walk_part c.requires.0 (step_left c.requires.0 c.steps.ensures c.if-i-steps.false)
-        c.under-found.ensures c.in-Part.is,
+        c.under.ensures c.in-Some.is,
     c.requires.1,
   ),
 )
@@ -102,5 +102,5 @@ hash_walk-returns t c = (
   c.hash_over.ensures.0,
   tells_part c.args.query.now c.args.path c.args.i c.args.area.now c.args.tree.from
       c.args.tree.to (λ x. c.hash_over.result ≡ trees_hash c.args.number (given x)) (step_left c.requires.0
-      c.steps.ensures c.if-i-steps.false) c.under-found.ensures c.in-Part.is c.hash_over.ensures.1,
+      c.steps.ensures c.if-i-steps.false) c.under.ensures c.in-Some.is c.hash_over.ensures.1,
 )

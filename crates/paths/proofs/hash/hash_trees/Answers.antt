@@ -1,6 +1,6 @@
 -- The proof of paths::hash::hash_trees, by answers to its goals: what is right for the trees from `at` on is right for
 -- all.
-use Rattle.std.proofs.Common.{arith, refl, ◌-◌}
+use Rattle.std.proofs.Common.{arith, refl}
 use Rattle.format.specs.StandLaws.{trees_places, holds_first, holds_rest}
 use Rattle.paths.specs.HashLaws.{trees_end, trees_next}
 use Rattle.paths.proofs.hash.hash_trees.Goals as goal

@@ -1,6 +1,6 @@
 -- The proof of the cycle of stages::path that counts what a path gives, by answers to its goals: n trees were passed
 -- before `at`, no more than bytes.
-use Rattle.std.proofs.Common.{arith, ◌≡◌, refl, ◌∙◌, ◌-◌, length}
+use Rattle.std.proofs.Common.{arith, ◌≡◌, refl, ◌∙◌, length}
 use Rattle.format.specs.StandLaws.{tree_places}
 use Rattle.queries.specs.StepLaws.{steps_fewer}
 use Rattle.paths.specs.Walk.{given}
@@ -19,15 +19,15 @@ count-returns-then-i-steps t c = (
       t),
 )
 
-pub count-under-found-requires : goal.count-under-found-requires
-count-under-found-requires t c =
+pub count-under-requires : goal.count-under-requires
+count-under-requires t c =
     (walk_inside c.requires (step_left c.requires c.steps.ensures c.if-i-steps.false), c.requires.stands)
 
 pub count-returns-in_default : goal.count-returns-in_default
 count-returns-in_default t c = (
   omega arith,
   tells_missing c.args.query.now c.args.path c.args.i c.args.area.now c.args.tree.from c.args.tree.to (λ
-      x. 0 ≡ length (given x)) (step_left c.requires c.steps.ensures c.if-i-steps.false) c.under-found.ensures
+      x. 0 ≡ length (given x)) (step_left c.requires c.steps.ensures c.if-i-steps.false) c.under.ensures
       c.in_default.is count_none,
 )
 
@@ -44,16 +44,16 @@ count-count_over-requires t c = (
     (steps_fewer c.args.query.now
         c.args.path),
   ),
-  walk_part c.requires (step_left c.requires c.steps.ensures c.if-i-steps.false) c.under-found.ensures
-      c.in-Part.is,
+  walk_part c.requires (step_left c.requires c.steps.ensures c.if-i-steps.false) c.under.ensures
+      c.in-Some.is,
 )
 
 pub count-returns : goal.count-returns
 count-returns t c = (
-  omega (arith, part_places c.requires c.under-found.ensures c.in-Part.is, c.count_over.ensures.0),
+  omega (arith, part_places c.requires c.under.ensures c.in-Some.is, c.count_over.ensures.0),
   tells_part
       c.args.query.now c.args.path c.args.i c.args.area.now c.args.tree.from c.args.tree.to (λ x. c.count_over.result ≡
-      length (given x)) (step_left c.requires c.steps.ensures c.if-i-steps.false) c.under-found.ensures c.in-Part.is
+      length (given x)) (step_left c.requires c.steps.ensures c.if-i-steps.false) c.under.ensures c.in-Some.is
       c.count_over.ensures.1,
 )
 

@@ -1,12 +1,12 @@
 -- The proof of the cycle of stages::path that finds tree j of what a path gives, by answers to its goals: what is
 -- right for the trees from `at` on and what is left of j is right for all and j.
 use Rattle.std.proofs.Common.{arith, refl, ◌∙◌, ◌-◌}
-use Rattle.paths.specs.declared.path.Element.TheVariants.{Part, Fewer}
 use Rattle.queries.specs.StepLaws.{steps_fewer}
 use Rattle.paths.specs.Walk.{given, ElementIs}
 use Rattle.paths.specs.WalkLaws.{tells_end, tells_missing, tells_part, over_given, walk_inside, walk_room, walk_part, part_places, walk_first, walk_rest, walk_places, step_left}
 use Rattle.paths.specs.ElementLaws.{element_one, element_past, element_none, element_within, element_end, element_here, element_next}
 use Rattle.paths.proofs.path.+finding.Goals as goal
+use Rattle.std.specs.Prelude.{Ok, Err}
 
 pub nth-steps-requires : goal.nth-steps-requires
 nth-steps-requires t c = walk_room c.requires
@@ -14,24 +14,24 @@ nth-steps-requires t c = walk_room c.requires
 pub nth-returns-then-j-eq0 : goal.nth-returns-then-j-eq0
 nth-returns-then-j-eq0 t c =
     tells_end c.args.query.now c.args.path c.args.i c.args.area.now c.args.tree.from c.args.tree.to (λ x. ElementIs
-    c.args.area.now c.args.tree c.args.j (given x) (Part c.args.tree)) (c.if-i-steps.true ∙ c.steps.ensures)
+    c.args.area.now c.args.tree c.args.j (given x) (Ok c.args.tree)) (c.if-i-steps.true ∙ c.steps.ensures)
     (element_one c.args.area.now c.args.tree.from c.args.tree.to c.args.j c.if-j-eq0.true)
 
 pub nth-returns-then-i-steps : goal.nth-returns-then-i-steps
 nth-returns-then-i-steps t c =
     tells_end c.args.query.now c.args.path c.args.i c.args.area.now c.args.tree.from c.args.tree.to (λ x. ElementIs
-    c.args.area.now c.args.tree c.args.j (given x) (Fewer (c.args.j - 1))) (c.if-i-steps.true ∙ c.steps.ensures) (λ t h.
+    c.args.area.now c.args.tree c.args.j (given x) (Err (c.args.j - 1))) (c.if-i-steps.true ∙ c.steps.ensures) (λ t h.
     element_past c.args.area.now c.args.tree.from c.args.tree.to c.args.j c.if-j-eq0.false t)
 
-pub nth-under-found-requires : goal.nth-under-found-requires
-nth-under-found-requires t c =
+pub nth-under-requires : goal.nth-under-requires
+nth-under-requires t c =
     (walk_inside c.requires (step_left c.requires c.steps.ensures c.if-i-steps.false), c.requires.stands)
 
 pub nth-returns-in_default : goal.nth-returns-in_default
 nth-returns-in_default t c =
     tells_missing c.args.query.now c.args.path c.args.i c.args.area.now c.args.tree.from c.args.tree.to (λ x. ElementIs
-    c.args.area.now c.args.tree c.args.j (given x) (Fewer c.args.j)) (step_left c.requires c.steps.ensures
-    c.if-i-steps.false) c.under-found.ensures c.in_default.is (element_none c.args.area.now c.args.tree.from
+    c.args.area.now c.args.tree c.args.j (given x) (Err c.args.j)) (step_left c.requires c.steps.ensures
+    c.if-i-steps.false) c.under.ensures c.in_default.is (element_none c.args.area.now c.args.tree.from
     c.args.tree.to c.args.j)
 
 pub nth-overflow_add-i : goal.nth-overflow_add-i
@@ -47,16 +47,16 @@ nth-nth_over-requires t c = (
     (steps_fewer c.args.query.now
         c.args.path),
   ),
-  walk_part c.requires (step_left c.requires c.steps.ensures c.if-i-steps.false) c.under-found.ensures
-      c.in-Part.is,
+  walk_part c.requires (step_left c.requires c.steps.ensures c.if-i-steps.false) c.under.ensures
+      c.in-Some.is,
 )
 
 pub nth-returns : goal.nth-returns
 nth-returns t c =
     tells_part c.args.query.now c.args.path c.args.i c.args.area.now c.args.tree.from c.args.tree.to (λ x. ElementIs
     c.args.area.now c.args.tree c.args.j (given x) c.nth_over.result) (step_left c.requires c.steps.ensures
-    c.if-i-steps.false) c.under-found.ensures c.in-Part.is (λ path ts g h. element_within (part_places c.requires
-    c.under-found.ensures c.in-Part.is).0 (part_places c.requires c.under-found.ensures c.in-Part.is).2
+    c.if-i-steps.false) c.under.ensures c.in-Some.is (λ path ts g h. element_within (part_places c.requires
+    c.under.ensures c.in-Some.is).0 (part_places c.requires c.under.ensures c.in-Some.is).2
     (c.nth_over.ensures path ts g h))
 
 pub nth_over-loop-at-init : goal.nth_over-loop-at-init
@@ -95,12 +95,12 @@ nth_over-loop-at-preserved t c = (
         (walk_places c.loop-at.invariant.0 c.loop-at-test.true
             c.field_end-m.ensures),
       )) (walk_places c.loop-at.invariant.0 c.loop-at-test.true c.field_end-m.ensures).1
-      c.nth-r.ensures c.in-Fewer.is r h),
+      c.nth-r.ensures c.in-Err.is r h),
 )
 
 pub nth_over-returns : goal.nth_over-returns
 nth_over-returns t c =
     over_given c.args.query.now c.args.path c.args.i c.args.area.now c.args.trees.from c.args.trees.to (λ l. ElementIs
-    c.args.area.now c.args.trees c.args.j l (Fewer c.loop-at.left)) (c.loop-at.invariant.1 (Fewer c.loop-at.left)
+    c.args.area.now c.args.trees c.args.j l (Err c.loop-at.left)) (c.loop-at.invariant.1 (Err c.loop-at.left)
     (element_end c.args.query.now c.args.path c.args.i c.args.area.now c.loop-at.at c.args.trees.to c.loop-at.left
     c.loop-at-test.false))

@@ -1,8 +1,7 @@
 use Rattle.std.proofs.Common.{◌+◌, ◌*◌, ◌-◌}
 use Rattle.format.specs.Stand.{trees_bytes}
-use Rattle.paths.specs.declared.path.Element.{Element}
 use Rattle.areas.specs.Area.{span}
-use Rattle.paths.specs.Walk.{given, Walk, TellsJoined, ElementIs}
+use Rattle.paths.specs.Walk.{given, Walk, TellsJoined, ElementIs, Element}
 use Rattle.paths.proofs.path.+finding.Given as goal
 
 abbrev pub decreases-nth : goal.decreases-nth

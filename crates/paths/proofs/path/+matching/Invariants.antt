@@ -1,8 +1,7 @@
 use Rattle.std.proofs.Common.{◌+◌, ◌*◌, ◌-◌, ◌≤◌, length}
 use Rattle.format.specs.Stand.{trees_bytes}
-use Rattle.paths.specs.declared.path.Compared.{Compared}
 use Rattle.areas.specs.Area.{span}
-use Rattle.paths.specs.Walk.{given_bytes, Walk, TellsJoined, ComparedIs}
+use Rattle.paths.specs.Walk.{given_bytes, Walk, TellsJoined, ComparedIs, Compared}
 use Rattle.paths.proofs.path.+matching.Given as goal
 
 abbrev pub decreases-matches_at : goal.decreases-matches_at

@@ -1,6 +1,6 @@
 -- The proof of the cycle of stages::path that says whether a path is present, by answers to its goals: each step
 -- takes one from the steps that are left, and what is right for the trees from `at` on is right for all.
-use Rattle.std.proofs.Common.{arith, ◌≡◌, refl, ◌∙◌, true, false, ◌-◌}
+use Rattle.std.proofs.Common.{arith, ◌≡◌, refl, ◌∙◌, true, false}
 use Rattle.spec_stages.specs.Paths as paths
 use Rattle.queries.specs.StepLaws.{steps_fewer}
 use Rattle.paths.specs.WalkLaws.{tells_end, tells_missing, tells_part, over_none, over_some, joined_end, walk_inside, walk_room, walk_part, walk_first, walk_rest, walk_places, step_left, present_some, present_none, present_here, present_next}
@@ -14,14 +14,14 @@ present-returns-then-i-steps t c =
     tells_end c.args.query.now c.args.path c.args.i c.args.area.now c.args.tree.from c.args.tree.to (λ x. true ≡
     paths.present x) (c.if-i-steps.true ∙ c.steps.ensures) (λ t h. present_some _)
 
-pub present-under-found-requires : goal.present-under-found-requires
-present-under-found-requires t c =
+pub present-under-requires : goal.present-under-requires
+present-under-requires t c =
     (walk_inside c.requires (step_left c.requires c.steps.ensures c.if-i-steps.false), c.requires.stands)
 
 pub present-returns-in_default : goal.present-returns-in_default
 present-returns-in_default t c =
     tells_missing c.args.query.now c.args.path c.args.i c.args.area.now c.args.tree.from c.args.tree.to (λ x. false ≡
-    paths.present x) (step_left c.requires c.steps.ensures c.if-i-steps.false) c.under-found.ensures c.in_default.is
+    paths.present x) (step_left c.requires c.steps.ensures c.if-i-steps.false) c.under.ensures c.in_default.is
     present_none
 
 pub present-overflow_add-i : goal.present-overflow_add-i
@@ -37,15 +37,15 @@ present-present_over-requires t c = (
     (steps_fewer c.args.query.now
         c.args.path),
   ),
-  walk_part c.requires (step_left c.requires c.steps.ensures c.if-i-steps.false) c.under-found.ensures
-      c.in-Part.is,
+  walk_part c.requires (step_left c.requires c.steps.ensures c.if-i-steps.false) c.under.ensures
+      c.in-Some.is,
 )
 
 pub present-returns : goal.present-returns
 present-returns t c =
     tells_part c.args.query.now c.args.path c.args.i c.args.area.now c.args.tree.from c.args.tree.to (λ x.
     c.present_over.result ≡ paths.present x) (step_left c.requires c.steps.ensures c.if-i-steps.false)
-    c.under-found.ensures c.in-Part.is c.present_over.ensures
+    c.under.ensures c.in-Some.is c.present_over.ensures
 
 pub present_over-returns-then-at-end : goal.present_over-returns-then-at-end
 present_over-returns-then-at-end t c =

@@ -1,12 +1,13 @@
 -- The proof of the cycle of place::keep, by answers to its goals: a label takes one step of the path, and what is
 -- right from `from` on is right for all.
-use Rattle.std.proofs.Common.{arith, refl, ◌∙◌, ◌+◌, ◌-◌}
+use Rattle.std.proofs.Common.{arith, refl, ◌∙◌, ◌+◌}
 use Rattle.format.specs.StandLaws.{heads_most, trees_places}
 use Rattle.queries.specs.StepLaws.{steps_fewer}
 use Rattle.place.specs.WriterLaws.{along_room, along_inside, along_small, step_before, ready_places, ready_labels, ready_array, ready_first}
 use Rattle.place.specs.PlaceLaws.{behind_at_lem}
 use Rattle.place.specs.KeptLaws.{keep_end, keep_missing, keep_no_room, keep_part, kept_behind, kept_rest, each_end, each_fail, each_next}
 use Rattle.place.proofs.keep.+keeping.Goals as goal
+use Rattle.areas.specs.AreaLaws.{handed_on}
 
 pub keep-steps-requires : goal.keep-steps-requires
 keep-steps-requires t c = along_room c.requires.along
@@ -28,8 +29,8 @@ keep-overflow_add-tree t c = omega (arith, ready_places c.requires refl)
 pub keep-field_end-requires : goal.keep-field_end-requires
 keep-field_end-requires t c = omega (arith, ready_places c.requires refl)
 
-pub keep-find-found-requires : goal.keep-find-found-requires
-keep-find-found-requires t c = ready_labels c.requires c.field_end.ensures
+pub keep-find-requires : goal.keep-find-requires
+keep-find-requires t c = ready_labels c.requires c.field_end.ensures
 
 pub keep-put_void-requires : goal.keep-put_void-requires
 keep-put_void-requires t c = (c.requires.room, c.requires.inside)
@@ -37,7 +38,7 @@ keep-put_void-requires t c = (c.requires.room, c.requires.inside)
 pub keep-returns-in_default : goal.keep-returns-in_default
 keep-returns-in_default t c =
     keep_missing c.args.query.now c.args.path c.args.i (step_before c.requires.step c.steps.ensures c.if-i-steps.false)
-    c.step_at-label.ensures c.field_end.ensures c.find-found.ensures c.in_default.is c.put_void.ensures
+    c.step_at-label.ensures c.field_end.ensures c.find.ensures c.in_default.is c.put_void.ensures
 
 pub keep-overflow_add-n : goal.keep-overflow_add-n
 keep-overflow_add-n t c = omega (arith, c.heads-n.ensures, heads_most c.step_at-label.result)
@@ -48,7 +49,7 @@ keep-overflow_sub-room t c = omega (arith, c.requires.room)
 pub keep-returns-then-room-n : goal.keep-returns-then-room-n
 keep-returns-then-room-n t c =
     keep_no_room c.args.query.now c.args.path c.args.i (step_before c.requires.step c.steps.ensures c.if-i-steps.false)
-    c.step_at-label.ensures c.field_end.ensures c.find-found.ensures c.in-Part.is c.args.room.from c.args.room.to (omega
+    c.step_at-label.ensures c.field_end.ensures c.find.ensures c.in-Some.is c.args.room.from c.args.room.to (omega
     (arith, c.requires.room, c.if-room-n.true, c.heads-n.ensures))
 
 pub keep-overflow_add-i : goal.keep-overflow_add-i
@@ -70,7 +71,7 @@ keep-keep_each-inner-requires t c = (
         c.args.query.now c.args.path),
   ),
   (ready_array c.requires c.step_at-label.result (6 + c.heads-n.result) (step_before
-      c.requires.step c.steps.ensures c.if-i-steps.false) c.field_end.ensures c.find-found.ensures c.in-Part.is (omega
+      c.requires.step c.steps.ensures c.if-i-steps.false) c.field_end.ensures c.find.ensures c.in-Some.is (omega
       (arith, c.requires.room, c.if-room-n.false))),
 )
 
@@ -78,7 +79,7 @@ pub keep-wrap-requires : goal.keep-wrap-requires
 keep-wrap-requires t c = (
   behind_at_lem c.keep_each-inner.new.work (omega (arith, c.heads-n.ensures)) (kept_behind (ready_array c.requires
       c.step_at-label.result (6 + c.heads-n.result) (step_before c.requires.step c.steps.ensures c.if-i-steps.false)
-      c.field_end.ensures c.find-found.ensures c.in-Part.is (omega (arith, c.requires.room, c.if-room-n.false)))
+      c.field_end.ensures c.find.ensures c.in-Some.is (omega (arith, c.requires.room, c.if-room-n.false)))
       c.keep_each-inner.ensures c.keep_each-inner.auto.work),
   omega (
     arith,
@@ -101,7 +102,7 @@ keep-wrap-requires t c = (
 pub keep-returns : goal.keep-returns
 keep-returns t c =
     keep_part c.args.query.now c.args.path c.args.i (step_before c.requires.step c.steps.ensures c.if-i-steps.false)
-    c.step_at-label.ensures c.field_end.ensures c.find-found.ensures c.in-Part.is c.args.room.to (omega (
+    c.step_at-label.ensures c.field_end.ensures c.find.ensures c.in-Some.is c.args.room.to (omega (
       arith,
       c.heads-n.ensures,
     )) (omega (arith, c.requires.room, c.if-room-n.false, c.requires.inside)) c.keep_each-inner.ensures
@@ -114,14 +115,14 @@ pub keep_each-field_end-m-requires : goal.keep_each-field_end-m-requires
 keep_each-field_end-m-requires t c =
     omega (arith, trees_places c.loop-from.invariant.0.source c.loop-from-test.true refl)
 
-pub keep_each-keep-one-requires : goal.keep_each-keep-one-requires
-keep_each-keep-one-requires t c =
+pub keep_each-keep-requires : goal.keep_each-keep-requires
+keep_each-keep-requires t c =
     (omega (arith, c.decreases), ready_first c.loop-from.invariant.0 c.loop-from-test.true c.field_end-m.ensures)
 
-pub keep_each-returns-in_default : goal.keep_each-returns-in_default
-keep_each-returns-in_default t c =
-    c.loop-from.invariant.2 _ _ (each_fail c.args.i c.loop-from-test.true c.field_end-m.ensures c.keep-one.ensures
-    c.in_default.is)
+pub keep_each-returns-in_err-e : goal.keep_each-returns-in_err-e
+keep_each-returns-in_err-e t c =
+    rw (handed_on _ c.from_residual.result c.from_residual.ensures.1) (c.loop-from.invariant.2 _ _ (each_fail c.args.i c.loop-from-test.true c.field_end-m.ensures c.keep.ensures
+    c.in_err-e.was))
 
 pub keep_each-loop-from-smaller : goal.keep_each-loop-from-smaller
 keep_each-loop-from-smaller t c =
@@ -129,12 +130,12 @@ keep_each-loop-from-smaller t c =
 
 pub keep_each-loop-from-preserved : goal.keep_each-loop-from-preserved
 keep_each-loop-from-preserved t c = (
-  kept_rest c.loop-from.invariant.0 c.loop-from-test.true c.field_end-m.ensures c.keep-one.ensures
-      c.keep-one.auto.work c.in-At.is,
-  c.keep-one.auto.work ∙ c.loop-from.invariant.1,
+  kept_rest c.loop-from.invariant.0 c.loop-from-test.true c.field_end-m.ensures c.keep.ensures
+      c.keep.auto.work c.in_ok-e.was,
+  c.keep.auto.work ∙ c.loop-from.invariant.1,
   λ v r h. c.loop-from.invariant.2 v
-      r (each_next c.args.i c.loop-from-test.true c.field_end-m.ensures c.keep-one.ensures c.loop-from.invariant.0.below
-      (omega (arith, c.loop-from.invariant.0.room, c.loop-from.invariant.0.inside)) c.in-At.is h),
+      r (each_next c.args.i c.loop-from-test.true c.field_end-m.ensures c.keep.ensures c.loop-from.invariant.0.below
+      (omega (arith, c.loop-from.invariant.0.room, c.loop-from.invariant.0.inside)) c.in_ok-e.was h),
 )
 
 pub keep_each-returns : goal.keep_each-returns

@@ -1,7 +1,6 @@
 use Rattle.std.proofs.Common.{◌≡◌, List, ℕ, ◌+◌, ◌*◌, ◌-◌, length}
-use Rattle.areas.specs.declared.area.Out.{Out}
 use Rattle.format.specs.Stand.{trees_bytes}
-use Rattle.areas.specs.Area.{span}
+use Rattle.areas.specs.Area.{span, Out}
 use Rattle.place.specs.Writers.{WriterReady}
 use Rattle.place.specs.Kept.{KeepsEach}
 use Rattle.place.proofs.keep.+keeping.Given as goal

@@ -1,5 +1,6 @@
 -- The proof of place::place::heads_room, by answers to its goals: the room of the steps before i.
-use Rattle.std.proofs.Common.{arith, refl, sym, ap, ◌∙◌, ◌+◌, ◌-◌}
+use Rattle.std.proofs.Common.{arith, refl, sym, ap, ◌≡◌, ◌∙◌, ◌+◌}
+use Rattle.queries.specs.Steps.{step_count}
 use Rattle.place.specs.Place.{room_at}
 use Rattle.place.specs.WriterLaws.{along_room, along_inside}
 use Rattle.place.specs.PlaceLaws.{room_none, room_before, room_small}
@@ -49,26 +50,6 @@ overflow_add-all-in-loop-i c =
       ))),
     )
 
-pub overflow_add-i : goal.overflow_add-i
-overflow_add-i c =
-    omega (
-      arith,
-      c.loop-i.invariant.0,
-      c.loop-i.invariant.1,
-      (room_before c.args.query.now c.args.target (c.loop-i.i +
-          1) c.loop-i.i refl c.step_at.ensures),
-      c.heads.ensures,
-      (room_small c.requires (c.loop-i.i + 1) (omega (
-        arith,
-        c.loop-i.invariant.0,
-        c.loop-i-test.true,
-        c.steps-n.ensures,
-      ))),
-    )
-
-pub loop-i-smaller : goal.loop-i-smaller
-loop-i-smaller c = omega (arith, c.loop-i.invariant.0, c.loop-i-test.true, c.steps-n.ensures)
-
 pub loop-i-preserved : goal.loop-i-preserved
 loop-i-preserved c = (
   omega (arith, c.loop-i.invariant.0, c.loop-i-test.true, c.steps-n.ensures),
@@ -81,4 +62,11 @@ loop-i-preserved c = (
 )
 
 pub returns : goal.returns
-returns c = c.loop-i.invariant.1 ∙ ap (room_at c.args.query.now c.args.target) (c.loop-i-test.false ∙ c.steps-n.ensures)
+returns c =
+    let all : c.loop-i.i ≡ step_count c.args.query.now c.args.target = omega (
+      arith,
+      c.loop-i.invariant.0,
+      c.loop-i-test.false,
+      c.steps-n.ensures,
+    ) in
+    c.loop-i.invariant.1 ∙ ap (room_at c.args.query.now c.args.target) all

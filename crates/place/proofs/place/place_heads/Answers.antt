@@ -1,27 +1,27 @@
 -- The proof of place::place::place_heads, by answers to its goals: from step i on all heads are stored, from `to` on.
-use Rattle.std.proofs.Common.{arith, refl, sym, ap, ◌∙◌, ◌+◌, ◌-◌}
+use Rattle.std.proofs.Common.{arith, refl, sym, ap, ◌≡◌, ◌∙◌, ◌+◌, ◌-◌}
 use Rattle.format.specs.StandLaws.{heads_most}
 use Rattle.place.specs.Place.{room_at}
 use Rattle.place.specs.WriterLaws.{along_room, along_inside, along_small}
 use Rattle.place.specs.PlaceLaws.{room_none, room_before, behind_at_lem, behind_wrapped, place_last, place_next, place_first}
 use Rattle.place.proofs.place.place_heads.Goals as goal
 
-pub steps-i-requires : goal.steps-i-requires
-steps-i-requires c = along_room c.requires.0
+pub steps-n-requires : goal.steps-n-requires
+steps-n-requires c = along_room c.requires.0
 
 pub overflow_add-to : goal.overflow_add-to
 overflow_add-to c = omega (arith, c.heads_room.ensures, c.requires.2)
 
 pub loop-i-init : goal.loop-i-init
 loop-i-init c = (
-  omega (arith, c.steps-i.ensures),
+  omega (arith, c.steps-n.ensures),
   refl,
   ap (λ n. c.args.at + n) (c.heads_room.ensures ∙ ap (room_at
-      c.args.query.now c.args.target) (sym c.steps-i.ensures)),
+      c.args.query.now c.args.target) (sym c.steps-n.ensures)),
   omega (arith, c.heads_room.ensures, c.requires.2),
   behind_at_lem c.args.work.now (omega (arith, c.heads_room.ensures)) c.requires.1,
   λ path h. place_last path _
-      c.steps-i.result h c.steps-i.ensures,
+      c.steps-n.result h c.steps-n.ensures,
 )
 
 pub step_at-label-requires : goal.step_at-label-requires
@@ -118,9 +118,10 @@ loop-i-preserved c = (
 
 pub returns : goal.returns
 returns c =
-    λ path h. place_first path c.loop-i-test.false (omega (
+    let none : c.loop-i.i ≡ 0 = omega (arith, c.loop-i-test.false) in
+    λ path h. place_first path none (omega (
       arith,
       c.loop-i.invariant.2,
       room_none c.args.query.now
-          c.args.target c.loop-i-test.false,
+          c.args.target none,
     )) (c.loop-i.invariant.5 path h)

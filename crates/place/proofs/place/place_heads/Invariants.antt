@@ -1,4 +1,4 @@
-use Rattle.std.proofs.Common.{◌≡◌, ◌+◌, ◌-◌, ◌≤◌, length, drop}
+use Rattle.std.proofs.Common.{◌≡◌, ◌+◌, ◌≤◌, length, drop}
 use Rattle.areas.specs.Area.{IsAt}
 use Rattle.format.specs.Stand.{Behind, Headed}
 use Rattle.spec_queries.specs.Query.{Path}
@@ -13,6 +13,3 @@ invariant-loop-i l =
     l.target l.i) × (l.to ≤ length l.initial.work) × Behind l.work l.to l.out × ((path : Path) → IsAt l.query l.target
     (path_bytes path) → Headed (place_bytes (drop l.i path)) (place_room (drop l.i path)) l.initial.work l.work l.to
     l.initial.out l.out)
-
-abbrev pub decreases-loop-i : goal.decreases-loop-i
-decreases-loop-i l = l.i

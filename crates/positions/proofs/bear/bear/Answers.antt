@@ -1,11 +1,11 @@
 -- The proof of positions::bear::bear, by answers to its goals: what is right for the trees that are left is right for
 -- all.
-use Rattle.std.proofs.Common.{arith, refl, subst, ◌+◌, ◌-◌}
+use Rattle.std.proofs.Common.{arith, refl, subst, ◌+◌}
 use Rattle.areas.specs.Area.{Wrote}
 use Rattle.areas.specs.Number.{two_bytes}
-use Rattle.areas.specs.declared.area.Out.TheVariants.{At}
 use Rattle.positions.specs.BearingLaws as law
 use Rattle.positions.proofs.bear.bear.Goals as goal
+use Rattle.std.specs.Prelude.{Ok}
 
 pub loop-at-init : goal.loop-at-init
 loop-at-init c = law.bear_begin c.requires.0
@@ -52,7 +52,7 @@ loop-at-smaller c =
 pub loop-at-preserved : goal.loop-at-preserved
 loop-at-preserved c =
     law.bear_again c.loop-at.invariant c.loop-at-test.true c.field_end-m.ensures c.put_two.auto.work (subst (λ i. Wrote
-    c.loop-at.work c.put_two.new.work i (i + 2) (two_bytes c.loop-at.position) (At (i + 2))) c.place.ensures
+    c.loop-at.work c.put_two.new.work i (i + 2) (two_bytes c.loop-at.position) (Ok (i + 2))) c.place.ensures
     c.put_two.ensures) c.requires.2
 
 pub shape_of-work : goal.shape_of-work

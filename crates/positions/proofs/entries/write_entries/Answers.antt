@@ -1,6 +1,6 @@
 -- The proof of positions::entries::write_entries, by answers to its goals: what is right for the trees that are left is
 -- right for all.
-use Rattle.std.proofs.Common.{refl, ◌-◌, arith}
+use Rattle.std.proofs.Common.{refl, arith}
 use Rattle.positions.specs.BearingLaws.{standing_places}
 use Rattle.positions.specs.EntriesLaws as law
 use Rattle.positions.proofs.entries.write_entries.Goals as goal

@@ -1,8 +1,7 @@
 use Rattle.std.proofs.Common.{◌≡◌, List, ℕ, ◌-◌, length}
-use Rattle.areas.specs.declared.area.Out.{Out}
 use Rattle.spec_trees.specs.Lists.{All}
 use Rattle.spec_queries.specs.Rules.{OkI}
-use Rattle.areas.specs.Area.{span}
+use Rattle.areas.specs.Area.{span, Out}
 use Rattle.queries.specs.Places.{items_bytes}
 use Rattle.project.specs.Project.{Building, BuildsFrom}
 use Rattle.project.proofs.project.project.Given as goal

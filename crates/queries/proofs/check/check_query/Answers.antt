@@ -9,20 +9,20 @@ returns-then-bytes-gt-QUERY c = sym (query_over c.args.bytes.now c.if-bytes-gt-Q
 
 pub check_query_field-requires : goal.check_query_field-requires
 check_query_field-requires c =
-    let f = span_found c.args.bytes.now 0 (length c.args.bytes.now) (omega arith) _ _ _ (sym c.spanning-h.ensures ∙
-    c.in-Field.is) in
+    let f = span_found c.args.bytes.now 0 (length c.args.bytes.now) (omega arith) _ _ _ (sym c.spanning.ensures ∙
+    c.in-Some.is) in
     search rules
 
-pub returns-then-check_query_field : goal.returns-then-check_query_field
-returns-then-check_query_field c =
-    sym (query_accepted c.args.bytes.now c.if-bytes-gt-QUERY.false _ _ _ (sym c.spanning-h.ensures ∙ c.in-Field.is) (sym
-    c.check_query_field.ensures ∙ c.if-check_query_field.true))
+pub returns : goal.returns
+returns c =
+    sym (query_accepted c.args.bytes.now c.if-bytes-gt-QUERY.false _ _ _ (sym c.spanning.ensures ∙ c.in-Some.is) (sym
+    c.check_query_field.ensures ∙ c.if-not-check_query_field.false))
 
-pub returns-else-check_query_field : goal.returns-else-check_query_field
-returns-else-check_query_field c =
-    sym (query_malformed c.args.bytes.now c.if-bytes-gt-QUERY.false _ _ _ (sym c.spanning-h.ensures ∙ c.in-Field.is)
-    (sym c.check_query_field.ensures ∙ c.if-check_query_field.false))
+pub returns-then-not-check_query_field : goal.returns-then-not-check_query_field
+returns-then-not-check_query_field c =
+    sym (query_malformed c.args.bytes.now c.if-bytes-gt-QUERY.false _ _ _ (sym c.spanning.ensures ∙ c.in-Some.is)
+    (sym c.check_query_field.ensures ∙ c.if-not-check_query_field.true))
 
-pub returns-in-Nothing : goal.returns-in-Nothing
-returns-in-Nothing c =
-    sym (query_nothing c.args.bytes.now c.if-bytes-gt-QUERY.false (sym c.spanning-h.ensures ∙ c.in-Nothing.is))
+pub returns-in_default : goal.returns-in_default
+returns-in_default c =
+    sym (query_nothing c.args.bytes.now c.if-bytes-gt-QUERY.false (sym c.spanning.ensures ∙ c.in_default.is))

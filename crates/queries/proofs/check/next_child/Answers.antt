@@ -1,6 +1,5 @@
 -- `check::next_child`: each return is a case of a child.
-use Rattle.std.proofs.Common.{arith, sym, ap, ◌∙◌, ◌-◌, rules}
-use borrow.Author.Tests.{not-true, not-false}
+use Rattle.std.proofs.Common.{Some, arith, sym, ap, ◌∙◌, ◌-◌, rules}
 use Rattle.format.specs.HeadLaws.{head_found}
 use Rattle.queries.specs.declared.table.Child.{Child}
 use Rattle.queries.specs.Table.{allowed}
@@ -12,47 +11,43 @@ returns-then-wide-count c =
     next_over c.args.rule c.args.count c.args.area.now c.args.rest c.requires.1 (let e = c.wide.ensures.0 in omega
     arith) c.requires.0
 
-pub returns-in_default : goal.returns-in_default
-returns-in_default c =
-    next_nothing c.args.rule c.args.count c.args.area.now c.args.rest c.requires.1 c.requires.0 (sym c.head_at-h.ensures
-    ∙ c.in_default.is)
+pub returns-in_err-field : goal.returns-in_err-field
+returns-in_err-field c =
+    rw c.from_residual.ensures (next_nothing c.args.rule c.args.count c.args.area.now c.args.rest c.requires.1 c.requires.0 (sym c.head_at.ensures
+    ∙ c.in_err-field.was))
 
 pub overflow_sub-to : goal.overflow_sub-to
 overflow_sub-to c =
-    let f = (head_found c.args.area.now c.args.rest.from c.args.rest.to c.requires.1 _ _ _ (sym c.head_at-h.ensures ∙
-    c.in-Field.is)) in
+    let f = (head_found c.args.area.now c.args.rest.from c.args.rest.to c.requires.1 _ _ _ (sym c.head_at.ensures ∙
+    c.in_ok-field.was)) in
     search rules
 
 pub returns-then-not-allows : goal.returns-then-not-allows
 returns-then-not-allows c =
-    next_other c.args.rule c.args.count c.args.area.now c.args.rest c.requires.1 _ _ _ (sym c.head_at-h.ensures ∙
-    c.in-Field.is) (let e = c.wide.ensures.0 in omega arith) ((sym (ap (λ (ch : Child). allowed ch c.in-Field.tag
-    (c.in-Field.to - c.in-Field.from)) c.child_at.ensures) ∙ sym c.allows.ensures) ∙ not-true _
-    c.if-not-allows.true-raw)
+    next_other c.args.rule c.args.count c.args.area.now c.args.rest c.requires.1 _ _ _ (sym c.head_at.ensures ∙
+    c.in_ok-field.was) (let e = c.wide.ensures.0 in omega arith) ((sym (ap (λ (ch : Child). allowed ch c.in_ok-field.field.tag
+    (c.in_ok-field.field.content.to - c.in_ok-field.field.content.from)) c.child_at.ensures) ∙ sym c.allows.ensures) ∙ c.if-not-allows.true)
 
-pub check_leaf-t-requires : goal.check_leaf-t-requires
-check_leaf-t-requires c =
-    let f = (head_found c.args.area.now c.args.rest.from c.args.rest.to c.requires.1 _ _ _ (sym c.head_at-h.ensures ∙
-    c.in-Field.is)) in
+pub check_leaf-requires : goal.check_leaf-requires
+check_leaf-requires c =
+    let f = (head_found c.args.area.now c.args.rest.from c.args.rest.to c.requires.1 _ _ _ (sym c.head_at.ensures ∙
+    c.in_ok-field.was)) in
     search rules
 
-pub returns-in-Good : goal.returns-in-Good
-returns-in-Good c =
-    next_good c.args.rule c.args.count c.args.area.now c.args.rest c.requires.1 _ _ _ (sym c.head_at-h.ensures ∙
-    c.in-Field.is) (let e = c.wide.ensures.0 in omega arith) ((sym (ap (λ (ch : Child). allowed ch c.in-Field.tag
-    (c.in-Field.to - c.in-Field.from)) c.child_at.ensures) ∙ sym c.allows.ensures) ∙ not-false _
-    c.if-not-allows.false-raw) c.check_leaf-t.ensures c.in-Good.is
+pub returns-in-Some-true : goal.returns-in-Some-true
+returns-in-Some-true c =
+    next_good c.args.rule c.args.count c.args.area.now c.args.rest c.requires.1 _ _ _ (sym c.head_at.ensures ∙
+    c.in_ok-field.was) (let e = c.wide.ensures.0 in omega arith) ((sym (ap (λ (ch : Child). allowed ch c.in_ok-field.field.tag
+    (c.in_ok-field.field.content.to - c.in_ok-field.field.content.from)) c.child_at.ensures) ∙ sym c.allows.ensures) ∙ c.if-not-allows.false) c.check_leaf.ensures (c.in-Some-true.is ∙ ap Some c.in-Some-true.field-0-test)
 
-pub returns-in-Fields : goal.returns-in-Fields
-returns-in-Fields c =
-    next_fields c.args.rule c.args.count c.args.area.now c.args.rest c.requires.1 _ _ _ (sym c.head_at-h.ensures ∙
-    c.in-Field.is) (let e = c.wide.ensures.0 in omega arith) ((sym (ap (λ (ch : Child). allowed ch c.in-Field.tag
-    (c.in-Field.to - c.in-Field.from)) c.child_at.ensures) ∙ sym c.allows.ensures) ∙ not-false _
-    c.if-not-allows.false-raw) c.check_leaf-t.ensures c.in-Fields.is
+pub returns-in-None : goal.returns-in-None
+returns-in-None c =
+    next_fields c.args.rule c.args.count c.args.area.now c.args.rest c.requires.1 _ _ _ (sym c.head_at.ensures ∙
+    c.in_ok-field.was) (let e = c.wide.ensures.0 in omega arith) ((sym (ap (λ (ch : Child). allowed ch c.in_ok-field.field.tag
+    (c.in_ok-field.field.content.to - c.in_ok-field.field.content.from)) c.child_at.ensures) ∙ sym c.allows.ensures) ∙ c.if-not-allows.false) c.check_leaf.ensures c.in-None.is
 
-pub returns-in-Bad : goal.returns-in-Bad
-returns-in-Bad c =
-    next_bad c.args.rule c.args.count c.args.area.now c.args.rest c.requires.1 _ _ _ (sym c.head_at-h.ensures ∙
-    c.in-Field.is) (let e = c.wide.ensures.0 in omega arith) ((sym (ap (λ (ch : Child). allowed ch c.in-Field.tag
-    (c.in-Field.to - c.in-Field.from)) c.child_at.ensures) ∙ sym c.allows.ensures) ∙ not-false _
-    c.if-not-allows.false-raw) c.check_leaf-t.ensures c.in-Bad.is
+pub returns-in-Some-false : goal.returns-in-Some-false
+returns-in-Some-false c =
+    next_bad c.args.rule c.args.count c.args.area.now c.args.rest c.requires.1 _ _ _ (sym c.head_at.ensures ∙
+    c.in_ok-field.was) (let e = c.wide.ensures.0 in omega arith) ((sym (ap (λ (ch : Child). allowed ch c.in_ok-field.field.tag
+    (c.in_ok-field.field.content.to - c.in_ok-field.field.content.from)) c.child_at.ensures) ∙ sym c.allows.ensures) ∙ c.if-not-allows.false) c.check_leaf.ensures (c.in-Some-false.is ∙ ap Some c.in-Some-false.field-0-test)

@@ -6,8 +6,8 @@ use Rattle.stream.proofs.collector.append.Goals as goal
 pub overflow_add-room : goal.overflow_add-room
 overflow_add-room c = omega (arith, (law.room_of c.requires))
 
-pub copy-out-requires : goal.copy-out-requires
-copy-out-requires c = (
+pub copy-requires : goal.copy-requires
+copy-requires c = (
   omega arith,
   omega (arith, c.requires.fits, c.requires.wide),
   omega (arith, (law.room_of c.requires)),
@@ -16,13 +16,13 @@ copy-out-requires c = (
 )
 
 pub returns-in_default : goal.returns-in_default
-returns-in_default c = law.overflowed c.requires c.copy-out.auto.work c.copy-out.ensures c.in_default.is
+returns-in_default c = law.overflowed c.requires c.copy.auto.work c.copy.ensures c.in_default.is
 
 pub overflow_sub-result : goal.overflow_sub-result
-overflow_sub-result c = law.appended_end c.requires c.copy-out.auto.work c.copy-out.ensures c.in-At.is
+overflow_sub-result c = law.appended_end c.requires c.copy.auto.work c.copy.ensures c.in-Ok.is
 
 pub overflow_cast-result : goal.overflow_cast-result
-overflow_cast-result c = omega (arith, law.appended_short c.requires c.copy-out.auto.work c.copy-out.ensures c.in-At.is)
+overflow_cast-result c = omega (arith, law.appended_short c.requires c.copy.auto.work c.copy.ensures c.in-Ok.is)
 
 pub returns : goal.returns
-returns c = law.appended c.requires c.copy-out.auto.work c.copy-out.ensures c.in-At.is
+returns c = law.appended c.requires c.copy.auto.work c.copy.ensures c.in-Ok.is

@@ -1,6 +1,6 @@
 -- The proof of the cycle that feeds a tree, by answers to its goals: each stage takes some of the query's bytes, and
 -- what is right for the outcomes that are left is right for all.
-use Rattle.std.proofs.Common.{arith, refl, sym, ◌∙◌, ◌-◌, ◌≤◌}
+use Rattle.std.proofs.Common.{arith, refl, sym, ◌∙◌, ◌≤◌}
 use Rattle.spec_trees.specs.Limits.{nest_max}
 use Rattle.format.specs.StandLaws.{tree_places, holds_labels}
 use Rattle.spec_queries.specs.Query.{match, unwind, project}
@@ -91,55 +91,55 @@ pub feed_each-field_end-m-requires : goal.feed_each-field_end-m-requires
 feed_each-field_end-m-requires t c =
     omega (arith, each.element_places c.requires.0 c.requires.1 c.loop-from.invariant c.loop-from-test.true refl)
 
-pub feed_each-put_element-out-requires : goal.feed_each-put_element-out-requires
-feed_each-put_element-out-requires t c =
+pub feed_each-put_element-requires : goal.feed_each-put_element-requires
+feed_each-put_element-requires t c =
     each.element_ready c.requires.0 c.requires.1 c.loop-from.invariant c.loop-from-test.true c.field_end-m.ensures
 
 pub feed_each-returns-in_default : goal.feed_each-returns-in_default
 feed_each-returns-in_default t c =
     absurd (each.element_never c.requires.0 c.requires.1 c.loop-from.invariant c.loop-from-test.true
-    c.field_end-m.ensures c.put_element-out.auto.work c.put_element-out.ensures c.in_default.is)
+    c.field_end-m.ensures c.put_element.auto.work c.put_element.ensures c.in_default.is)
 
 pub feed_each-slice_bounds-feed-count : goal.feed_each-slice_bounds-feed-count
 feed_each-slice_bounds-feed-count t c =
-    omega (arith, each.wide c.requires.0 c.loop-from.invariant, c.put_element-out.auto.work)
+    omega (arith, each.wide c.requires.0 c.loop-from.invariant, c.put_element.auto.work)
 
 pub feed_each-slice_bounds-feed-start : goal.feed_each-slice_bounds-feed-start
 feed_each-slice_bounds-feed-start t c =
-    omega (arith, each.wide c.requires.0 c.loop-from.invariant, c.put_element-out.auto.work)
+    omega (arith, each.wide c.requires.0 c.loop-from.invariant, c.put_element.auto.work)
 
 pub feed_each-slice_bounds-feed-end : goal.feed_each-slice_bounds-feed-end
 feed_each-slice_bounds-feed-end t c =
-    omega (arith, each.wide c.requires.0 c.loop-from.invariant, c.put_element-out.auto.work)
+    omega (arith, each.wide c.requires.0 c.loop-from.invariant, c.put_element.auto.work)
 
 pub feed_each-overflow_sub-o : goal.feed_each-overflow_sub-o
 feed_each-overflow_sub-o t c =
-    each.outcome_end c.requires.0 c.loop-from.invariant c.put_element-out.auto.work (each.element_kept c.requires.0
-    c.requires.1 c.loop-from.invariant c.loop-from-test.true c.field_end-m.ensures c.put_element-out.auto.work
-    c.put_element-out.ensures) (each.element_ends c.requires.0 c.requires.1 c.loop-from.invariant c.loop-from-test.true
-    c.field_end-m.ensures c.put_element-out.auto.work c.put_element-out.ensures) (each.element_parts c.requires.0
-    c.requires.1 c.loop-from.invariant c.loop-from-test.true c.field_end-m.ensures c.put_element-out.auto.work
-    c.put_element-out.ensures c.in-At.is)
+    each.outcome_end c.requires.0 c.loop-from.invariant c.put_element.auto.work (each.element_kept c.requires.0
+    c.requires.1 c.loop-from.invariant c.loop-from-test.true c.field_end-m.ensures c.put_element.auto.work
+    c.put_element.ensures) (each.element_ends c.requires.0 c.requires.1 c.loop-from.invariant c.loop-from-test.true
+    c.field_end-m.ensures c.put_element.auto.work c.put_element.ensures) (each.element_parts c.requires.0
+    c.requires.1 c.loop-from.invariant c.loop-from-test.true c.field_end-m.ensures c.put_element.auto.work
+    c.put_element.ensures c.in-Ok.is)
 
 pub feed_each-feed-held-requires : goal.feed_each-feed-held-requires
 feed_each-feed-held-requires t c = (
   omega (arith, c.decreases),
-  each.outcome_ready c.requires.0 c.loop-from.invariant c.put_element-out.auto.work
+  each.outcome_ready c.requires.0 c.loop-from.invariant c.put_element.auto.work
       (each.element_kept c.requires.0 c.requires.1 c.loop-from.invariant c.loop-from-test.true c.field_end-m.ensures
-      c.put_element-out.auto.work c.put_element-out.ensures) (each.element_ends c.requires.0 c.requires.1
-      c.loop-from.invariant c.loop-from-test.true c.field_end-m.ensures c.put_element-out.auto.work
-      c.put_element-out.ensures) (each.element_parts c.requires.0 c.requires.1 c.loop-from.invariant c.loop-from-test.true
-      c.field_end-m.ensures c.put_element-out.auto.work c.put_element-out.ensures c.in-At.is),
+      c.put_element.auto.work c.put_element.ensures) (each.element_ends c.requires.0 c.requires.1
+      c.loop-from.invariant c.loop-from-test.true c.field_end-m.ensures c.put_element.auto.work
+      c.put_element.ensures) (each.element_parts c.requires.0 c.requires.1 c.loop-from.invariant c.loop-from-test.true
+      c.field_end-m.ensures c.put_element.auto.work c.put_element.ensures c.in-Ok.is),
 )
 
 pub feed_each-returns-then-is_large : goal.feed_each-returns-then-is_large
 feed_each-returns-then-is_large t c =
-    each.unwinding_stop c.requires.0 c.loop-from.invariant c.put_element-out.auto.work (each.element_kept c.requires.0
-    c.requires.1 c.loop-from.invariant c.loop-from-test.true c.field_end-m.ensures c.put_element-out.auto.work
-    c.put_element-out.ensures) (each.element_ends c.requires.0 c.requires.1 c.loop-from.invariant c.loop-from-test.true
-    c.field_end-m.ensures c.put_element-out.auto.work c.put_element-out.ensures) (each.element_parts c.requires.0
-    c.requires.1 c.loop-from.invariant c.loop-from-test.true c.field_end-m.ensures c.put_element-out.auto.work
-    c.put_element-out.ensures c.in-At.is) c.feed-held.auto.tail c.feed-held.ensures _ (sym c.is_large.ensures ∙
+    each.unwinding_stop c.requires.0 c.loop-from.invariant c.put_element.auto.work (each.element_kept c.requires.0
+    c.requires.1 c.loop-from.invariant c.loop-from-test.true c.field_end-m.ensures c.put_element.auto.work
+    c.put_element.ensures) (each.element_ends c.requires.0 c.requires.1 c.loop-from.invariant c.loop-from-test.true
+    c.field_end-m.ensures c.put_element.auto.work c.put_element.ensures) (each.element_parts c.requires.0
+    c.requires.1 c.loop-from.invariant c.loop-from-test.true c.field_end-m.ensures c.put_element.auto.work
+    c.put_element.ensures c.in-Ok.is) c.feed-held.auto.tail c.feed-held.ensures _ (sym c.is_large.ensures ∙
     c.if-is_large.true)
 
 pub feed_each-loop-from-smaller : goal.feed_each-loop-from-smaller
@@ -152,12 +152,12 @@ feed_each-loop-from-smaller t c =
 
 pub feed_each-loop-from-preserved : goal.feed_each-loop-from-preserved
 feed_each-loop-from-preserved t c =
-    each.unwinding_next c.requires.0 c.loop-from.invariant c.put_element-out.auto.work (each.element_kept c.requires.0
-    c.requires.1 c.loop-from.invariant c.loop-from-test.true c.field_end-m.ensures c.put_element-out.auto.work
-    c.put_element-out.ensures) (each.element_ends c.requires.0 c.requires.1 c.loop-from.invariant c.loop-from-test.true
-    c.field_end-m.ensures c.put_element-out.auto.work c.put_element-out.ensures) (each.element_parts c.requires.0
-    c.requires.1 c.loop-from.invariant c.loop-from-test.true c.field_end-m.ensures c.put_element-out.auto.work
-    c.put_element-out.ensures c.in-At.is) c.feed-held.auto.tail c.feed-held.ensures (sym c.is_large.ensures ∙
+    each.unwinding_next c.requires.0 c.loop-from.invariant c.put_element.auto.work (each.element_kept c.requires.0
+    c.requires.1 c.loop-from.invariant c.loop-from-test.true c.field_end-m.ensures c.put_element.auto.work
+    c.put_element.ensures) (each.element_ends c.requires.0 c.requires.1 c.loop-from.invariant c.loop-from-test.true
+    c.field_end-m.ensures c.put_element.auto.work c.put_element.ensures) (each.element_parts c.requires.0
+    c.requires.1 c.loop-from.invariant c.loop-from-test.true c.field_end-m.ensures c.put_element.auto.work
+    c.put_element.ensures c.in-Ok.is) c.feed-held.auto.tail c.feed-held.ensures (sym c.is_large.ensures ∙
     c.if-is_large.false)
 
 pub feed_each-returns : goal.feed_each-returns
@@ -169,19 +169,19 @@ feed_elements-step_at-label-requires t c = along_inside (each.path_along c.requi
 pub feed_elements-field_end-l-requires : goal.feed_elements-field_end-l-requires
 feed_elements-field_end-l-requires t c = omega (arith, tree_places (each.front_tree c.requires.0) refl)
 
-pub feed_elements-find-found-requires : goal.feed_elements-find-found-requires
-feed_elements-find-found-requires t c = holds_labels (each.front_tree c.requires.0) c.field_end-l.ensures
+pub feed_elements-find-requires : goal.feed_elements-find-requires
+feed_elements-find-requires t c = holds_labels (each.front_tree c.requires.0) c.field_end-l.ensures
 
 pub feed_elements-returns-in_default : goal.feed_elements-returns-in_default
 feed_elements-returns-in_default t c =
-    each.elements_missing c.requires.0 c.requires.1 c.step_at-label.ensures c.field_end-l.ensures c.find-found.ensures
+    each.elements_missing c.requires.0 c.requires.1 c.step_at-label.ensures c.field_end-l.ensures c.find.ensures
     c.in_default.is
 
 pub feed_elements-returns-then-f-t : goal.feed_elements-returns-then-f-t
 feed_elements-returns-then-f-t t c =
     each.elements_end c.requires.0 (each.elements_under c.requires.0 c.requires.1 c.step_at-label.ensures
-    c.field_end-l.ensures c.find-found.ensures c.in-Part.is) (each.elements_begin c.requires.0 (each.elements_under
-    c.requires.0 c.requires.1 c.step_at-label.ensures c.field_end-l.ensures c.find-found.ensures c.in-Part.is))
+    c.field_end-l.ensures c.find.ensures c.in-Some.is) (each.elements_begin c.requires.0 (each.elements_under
+    c.requires.0 c.requires.1 c.step_at-label.ensures c.field_end-l.ensures c.find.ensures c.in-Some.is))
     c.if-f-t.true
 
 pub feed_elements-field_end-requires : goal.feed_elements-field_end-requires
@@ -189,9 +189,9 @@ feed_elements-field_end-requires t c =
     omega (
       arith,
       each.element_places c.requires.0 (each.elements_under c.requires.0 c.requires.1
-          c.step_at-label.ensures c.field_end-l.ensures c.find-found.ensures c.in-Part.is) (each.elements_begin c.requires.0
-          (each.elements_under c.requires.0 c.requires.1 c.step_at-label.ensures c.field_end-l.ensures c.find-found.ensures
-          c.in-Part.is)) c.if-f-t.false refl,
+          c.step_at-label.ensures c.field_end-l.ensures c.find.ensures c.in-Some.is) (each.elements_begin c.requires.0
+          (each.elements_under c.requires.0 c.requires.1 c.step_at-label.ensures c.field_end-l.ensures c.find.ensures
+          c.in-Some.is)) c.if-f-t.false refl,
     )
 
 pub feed_elements-feed_each-requires : goal.feed_elements-feed_each-requires
@@ -200,7 +200,7 @@ feed_elements-feed_each-requires t c = (
   (
     c.requires.0,
     (each.elements_under c.requires.0 c.requires.1 c.step_at-label.ensures
-        c.field_end-l.ensures c.find-found.ensures c.in-Part.is),
+        c.field_end-l.ensures c.find.ensures c.in-Some.is),
   ),
 )
 
@@ -210,23 +210,23 @@ feed_elements-feed-requires t c = (omega (arith, c.decreases), law.next_ready c.
 pub feed_elements-returns : goal.feed_elements-returns
 feed_elements-returns t c =
     each.elements_alone c.requires.0 (each.elements_under c.requires.0 c.requires.1 c.step_at-label.ensures
-    c.field_end-l.ensures c.find-found.ensures c.in-Part.is) c.if-f-t.false c.field_end.ensures c.if-field_end-t.false
+    c.field_end-l.ensures c.find.ensures c.in-Some.is) c.if-f-t.false c.field_end.ensures c.if-field_end-t.false
     c.feed.ensures
 
-pub feed_looked-lookup-out-requires : goal.feed_looked-lookup-out-requires
-feed_looked-lookup-out-requires t c = law.lookup_ready c.requires
+pub feed_looked-lookup-requires : goal.feed_looked-lookup-requires
+feed_looked-lookup-requires t c = law.lookup_ready c.requires
 
 pub feed_looked-returns-in_default : goal.feed_looked-returns-in_default
 feed_looked-returns-in_default t c =
-    law.lookup_large c.requires c.lookup-out.auto.work c.lookup-out.ensures c.in_default.is
+    law.lookup_large c.requires c.lookup.auto.work c.lookup.ensures c.in_default.is
 
 pub feed_looked-feed-requires : goal.feed_looked-feed-requires
 feed_looked-feed-requires t c =
-    (omega (arith, c.decreases), law.lookup_next c.requires c.lookup-out.auto.work c.lookup-out.ensures c.in-At.is)
+    (omega (arith, c.decreases), law.lookup_next c.requires c.lookup.auto.work c.lookup.ensures c.in-Ok.is)
 
 pub feed_looked-returns : goal.feed_looked-returns
 feed_looked-returns t c =
-    law.lookup_fed c.requires c.lookup-out.auto.work c.lookup-out.ensures c.in-At.is c.feed.ensures
+    law.lookup_fed c.requires c.lookup.auto.work c.lookup.ensures c.in-Ok.is c.feed.ensures
 
 pub feed_matched-holds-requires : goal.feed_matched-holds-requires
 feed_matched-holds-requires t c = law.match_reads c.requires
@@ -246,61 +246,61 @@ feed_outcomes-outcomes-n-requires t c = (each.path_along c.requires, omega arith
 pub feed_outcomes-loop-i-init : goal.feed_outcomes-loop-i-init
 feed_outcomes-loop-i-init t c = each.outcomes_begin c.requires
 
-pub feed_outcomes-put_outcome-out-requires : goal.feed_outcomes-put_outcome-out-requires
-feed_outcomes-put_outcome-out-requires t c =
+pub feed_outcomes-put_outcome-requires : goal.feed_outcomes-put_outcome-requires
+feed_outcomes-put_outcome-requires t c =
     each.outcome_writes c.requires c.outcomes-n.ensures c.loop-i.invariant c.loop-i-test.true
 
 pub feed_outcomes-returns-in_default : goal.feed_outcomes-returns-in_default
 feed_outcomes-returns-in_default t c =
     absurd (each.outcome_never c.requires c.outcomes-n.ensures c.loop-i.invariant c.loop-i-test.true
-    c.put_outcome-out.auto.work c.put_outcome-out.ensures c.in_default.is)
+    c.put_outcome.auto.work c.put_outcome.ensures c.in_default.is)
 
 pub feed_outcomes-slice_bounds-feed-count : goal.feed_outcomes-slice_bounds-feed-count
 feed_outcomes-slice_bounds-feed-count t c =
-    omega (arith, each.wide c.requires c.loop-i.invariant, c.put_outcome-out.auto.work)
+    omega (arith, each.wide c.requires c.loop-i.invariant, c.put_outcome.auto.work)
 
 pub feed_outcomes-slice_bounds-feed-start : goal.feed_outcomes-slice_bounds-feed-start
 feed_outcomes-slice_bounds-feed-start t c =
-    omega (arith, each.wide c.requires c.loop-i.invariant, c.put_outcome-out.auto.work)
+    omega (arith, each.wide c.requires c.loop-i.invariant, c.put_outcome.auto.work)
 
 pub feed_outcomes-slice_bounds-feed-end : goal.feed_outcomes-slice_bounds-feed-end
 feed_outcomes-slice_bounds-feed-end t c =
-    omega (arith, each.wide c.requires c.loop-i.invariant, c.put_outcome-out.auto.work)
+    omega (arith, each.wide c.requires c.loop-i.invariant, c.put_outcome.auto.work)
 
 pub feed_outcomes-overflow_sub-o : goal.feed_outcomes-overflow_sub-o
 feed_outcomes-overflow_sub-o t c =
-    each.outcome_end c.requires c.loop-i.invariant c.put_outcome-out.auto.work (each.outcome_kept c.requires
-    c.outcomes-n.ensures c.loop-i.invariant c.loop-i-test.true c.put_outcome-out.auto.work c.put_outcome-out.ensures)
-    (each.outcome_ends c.requires c.outcomes-n.ensures c.loop-i.invariant c.loop-i-test.true c.put_outcome-out.auto.work
-    c.put_outcome-out.ensures) (each.outcome_parts c.requires c.outcomes-n.ensures c.loop-i.invariant c.loop-i-test.true
-    c.put_outcome-out.auto.work c.put_outcome-out.ensures c.in-At.is)
+    each.outcome_end c.requires c.loop-i.invariant c.put_outcome.auto.work (each.outcome_kept c.requires
+    c.outcomes-n.ensures c.loop-i.invariant c.loop-i-test.true c.put_outcome.auto.work c.put_outcome.ensures)
+    (each.outcome_ends c.requires c.outcomes-n.ensures c.loop-i.invariant c.loop-i-test.true c.put_outcome.auto.work
+    c.put_outcome.ensures) (each.outcome_parts c.requires c.outcomes-n.ensures c.loop-i.invariant c.loop-i-test.true
+    c.put_outcome.auto.work c.put_outcome.ensures c.in-Ok.is)
 
 pub feed_outcomes-feed-held-requires : goal.feed_outcomes-feed-held-requires
 feed_outcomes-feed-held-requires t c = (
   omega (arith, c.decreases),
-  each.outcome_ready c.requires c.loop-i.invariant c.put_outcome-out.auto.work
-      (each.outcome_kept c.requires c.outcomes-n.ensures c.loop-i.invariant c.loop-i-test.true c.put_outcome-out.auto.work
-      c.put_outcome-out.ensures) (each.outcome_ends c.requires c.outcomes-n.ensures c.loop-i.invariant c.loop-i-test.true
-      c.put_outcome-out.auto.work c.put_outcome-out.ensures) (each.outcome_parts c.requires c.outcomes-n.ensures
-      c.loop-i.invariant c.loop-i-test.true c.put_outcome-out.auto.work c.put_outcome-out.ensures c.in-At.is),
+  each.outcome_ready c.requires c.loop-i.invariant c.put_outcome.auto.work
+      (each.outcome_kept c.requires c.outcomes-n.ensures c.loop-i.invariant c.loop-i-test.true c.put_outcome.auto.work
+      c.put_outcome.ensures) (each.outcome_ends c.requires c.outcomes-n.ensures c.loop-i.invariant c.loop-i-test.true
+      c.put_outcome.auto.work c.put_outcome.ensures) (each.outcome_parts c.requires c.outcomes-n.ensures
+      c.loop-i.invariant c.loop-i-test.true c.put_outcome.auto.work c.put_outcome.ensures c.in-Ok.is),
 )
 
 pub feed_outcomes-returns-then-is_large : goal.feed_outcomes-returns-then-is_large
 feed_outcomes-returns-then-is_large t c =
-    each.unwinding_stop c.requires c.loop-i.invariant c.put_outcome-out.auto.work (each.outcome_kept c.requires
-    c.outcomes-n.ensures c.loop-i.invariant c.loop-i-test.true c.put_outcome-out.auto.work c.put_outcome-out.ensures)
-    (each.outcome_ends c.requires c.outcomes-n.ensures c.loop-i.invariant c.loop-i-test.true c.put_outcome-out.auto.work
-    c.put_outcome-out.ensures) (each.outcome_parts c.requires c.outcomes-n.ensures c.loop-i.invariant c.loop-i-test.true
-    c.put_outcome-out.auto.work c.put_outcome-out.ensures c.in-At.is) c.feed-held.auto.tail c.feed-held.ensures _ (sym
+    each.unwinding_stop c.requires c.loop-i.invariant c.put_outcome.auto.work (each.outcome_kept c.requires
+    c.outcomes-n.ensures c.loop-i.invariant c.loop-i-test.true c.put_outcome.auto.work c.put_outcome.ensures)
+    (each.outcome_ends c.requires c.outcomes-n.ensures c.loop-i.invariant c.loop-i-test.true c.put_outcome.auto.work
+    c.put_outcome.ensures) (each.outcome_parts c.requires c.outcomes-n.ensures c.loop-i.invariant c.loop-i-test.true
+    c.put_outcome.auto.work c.put_outcome.ensures c.in-Ok.is) c.feed-held.auto.tail c.feed-held.ensures _ (sym
     c.is_large.ensures ∙ c.if-is_large.true)
 
 pub feed_outcomes-loop-i-preserved : goal.feed_outcomes-loop-i-preserved
 feed_outcomes-loop-i-preserved t c =
-    each.unwinding_next c.requires c.loop-i.invariant c.put_outcome-out.auto.work (each.outcome_kept c.requires
-    c.outcomes-n.ensures c.loop-i.invariant c.loop-i-test.true c.put_outcome-out.auto.work c.put_outcome-out.ensures)
-    (each.outcome_ends c.requires c.outcomes-n.ensures c.loop-i.invariant c.loop-i-test.true c.put_outcome-out.auto.work
-    c.put_outcome-out.ensures) (each.outcome_parts c.requires c.outcomes-n.ensures c.loop-i.invariant c.loop-i-test.true
-    c.put_outcome-out.auto.work c.put_outcome-out.ensures c.in-At.is) c.feed-held.auto.tail c.feed-held.ensures (sym
+    each.unwinding_next c.requires c.loop-i.invariant c.put_outcome.auto.work (each.outcome_kept c.requires
+    c.outcomes-n.ensures c.loop-i.invariant c.loop-i-test.true c.put_outcome.auto.work c.put_outcome.ensures)
+    (each.outcome_ends c.requires c.outcomes-n.ensures c.loop-i.invariant c.loop-i-test.true c.put_outcome.auto.work
+    c.put_outcome.ensures) (each.outcome_parts c.requires c.outcomes-n.ensures c.loop-i.invariant c.loop-i-test.true
+    c.put_outcome.auto.work c.put_outcome.ensures c.in-Ok.is) c.feed-held.auto.tail c.feed-held.ensures (sym
     c.is_large.ensures ∙ c.if-is_large.false)
 
 pub feed_outcomes-returns : goal.feed_outcomes-returns
@@ -308,32 +308,32 @@ feed_outcomes-returns t c =
     let done : c.outcomes-n.result ≤ c.loop-i.i = omega arith in
     each.outcomes_end c.requires c.outcomes-n.ensures c.loop-i.invariant done
 
-pub feed_projected-project-out-requires : goal.feed_projected-project-out-requires
-feed_projected-project-out-requires t c = law.project_ready c.requires
+pub feed_projected-project-requires : goal.feed_projected-project-requires
+feed_projected-project-requires t c = law.project_ready c.requires
 
 pub feed_projected-returns-in_default : goal.feed_projected-returns-in_default
 feed_projected-returns-in_default t c =
-    law.project_large c.requires c.project-out.auto.work c.project-out.ensures c.in_default.is
+    law.project_large c.requires c.project.auto.work c.project.ensures c.in_default.is
 
 pub feed_projected-slice_bounds-feed-count : goal.feed_projected-slice_bounds-feed-count
-feed_projected-slice_bounds-feed-count t c = omega (arith, c.requires.next.room, c.project-out.auto.work)
+feed_projected-slice_bounds-feed-count t c = omega (arith, c.requires.next.room, c.project.auto.work)
 
 pub feed_projected-slice_bounds-feed-start : goal.feed_projected-slice_bounds-feed-start
-feed_projected-slice_bounds-feed-start t c = omega (arith, c.requires.next.room, c.project-out.auto.work)
+feed_projected-slice_bounds-feed-start t c = omega (arith, c.requires.next.room, c.project.auto.work)
 
 pub feed_projected-slice_bounds-feed-end : goal.feed_projected-slice_bounds-feed-end
-feed_projected-slice_bounds-feed-end t c = omega (arith, c.requires.next.room, c.project-out.auto.work)
+feed_projected-slice_bounds-feed-end t c = omega (arith, c.requires.next.room, c.project.auto.work)
 
 pub feed_projected-overflow_sub-o : goal.feed_projected-overflow_sub-o
-feed_projected-overflow_sub-o t c = law.project_end c.requires c.project-out.auto.work c.project-out.ensures c.in-At.is
+feed_projected-overflow_sub-o t c = law.project_end c.requires c.project.auto.work c.project.ensures c.in-Ok.is
 
 pub feed_projected-feed-requires : goal.feed_projected-feed-requires
 feed_projected-feed-requires t c =
-    (omega (arith, c.decreases), law.project_next c.requires c.project-out.auto.work c.project-out.ensures c.in-At.is)
+    (omega (arith, c.decreases), law.project_next c.requires c.project.auto.work c.project.ensures c.in-Ok.is)
 
 pub feed_projected-returns : goal.feed_projected-returns
 feed_projected-returns t c =
-    law.project_fed c.requires c.project-out.auto.work c.project-out.ensures c.in-At.is c.feed.auto.tail c.feed.ensures
+    law.project_fed c.requires c.project.auto.work c.project.ensures c.in-Ok.is c.feed.auto.tail c.feed.ensures
 
 pub feed_unwound-steps-requires : goal.feed_unwound-steps-requires
 feed_unwound-steps-requires t c = along_room (each.path_along c.requires)

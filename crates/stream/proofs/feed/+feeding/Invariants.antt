@@ -37,6 +37,3 @@ decreases-feed_each-loop-from l = l.stop - l.from
 abbrev pub invariant-feed_outcomes-loop-i : goal.invariant-feed_outcomes-loop-i
 invariant-feed_outcomes-loop-i l =
     Unwinding (LeftFrom l.i) l.initial.tail l.end l.query l.at l.joined l.initial.held l.tail l.held
-
-abbrev pub decreases-feed_outcomes-loop-i : goal.decreases-feed_outcomes-loop-i
-decreases-feed_outcomes-loop-i l = l.n - l.i

@@ -16,11 +16,11 @@ pub returns-then-not-totals_fit : goal.returns-then-not-totals_fit
 returns-then-not-totals_fit c =
     held_overflow c.requires c.arrange.auto.work c.arrange.ensures c.totals_fit.ensures (c.if-not-totals_fit.true)
 
-pub regroup-held-requires : goal.regroup-held-requires
-regroup-held-requires c =
+pub regroup-requires : goal.regroup-requires
+regroup-requires c =
     held_group c.requires c.arrange.auto.work c.arrange.ensures c.totals_fit.ensures (c.if-not-totals_fit.false)
 
 pub returns : goal.returns
 returns c =
     held_post c.requires c.arrange.auto.work c.arrange.ensures c.totals_fit.ensures (c.if-not-totals_fit.false)
-    c.regroup-held.new.work c.regroup-held.result c.regroup-held.ensures
+    c.regroup.new.work c.regroup.result c.regroup.ensures

@@ -1,6 +1,6 @@
 -- The proof of totals::over::total_over, by answers to its goals: what is right for the trees from `at` on, with the total
 -- so far, is right for all.
-use Rattle.std.proofs.Common.{arith, refl, ◌-◌}
+use Rattle.std.proofs.Common.{arith, refl}
 use Rattle.paths.specs.WalkLaws.{walk_first, walk_rest, walk_places}
 use Rattle.totals.specs.SumLaws.{ready_empty, summed_same, summed_seq, ready_next, ready_first}
 use Rattle.totals.specs.SumPathLaws.{sum_end, sum_next, total_over}

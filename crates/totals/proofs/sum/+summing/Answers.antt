@@ -1,6 +1,6 @@
 -- The proof of the cycle of totals::sum that adds the roots that a path gives, by answers to its goals: what is right for
 -- the trees from `at` on, with the total so far, is right for all.
-use Rattle.std.proofs.Common.{arith, refl, ◌∙◌, ◌-◌}
+use Rattle.std.proofs.Common.{arith, refl, ◌∙◌}
 use Rattle.queries.specs.StepLaws.{steps_fewer}
 use Rattle.paths.specs.Walk.{given}
 use Rattle.paths.specs.WalkLaws.{tells_end, tells_missing, tells_part, over_given, walk_inside, walk_room, walk_part, part_places, walk_first, walk_rest, walk_places, step_left}
@@ -63,8 +63,8 @@ sum_walk-returns-then-i-steps t c = (
       (given_one c.sum_tree.ensures.1),
 )
 
-pub sum_walk-under-found-requires : goal.sum_walk-under-found-requires
-sum_walk-under-found-requires t c =
+pub sum_walk-under-requires : goal.sum_walk-under-requires
+sum_walk-under-requires t c =
     (walk_inside c.requires.0 (step_left c.requires.0 c.steps.ensures c.if-i-steps.false), c.requires.0.stands)
 
 pub sum_walk-returns-in_default : goal.sum_walk-returns-in_default
@@ -72,7 +72,7 @@ sum_walk-returns-in_default t c = (
   summed_same c.args.tree.from c.args.tree.to c.requires.1.sound (omega (arith, c.requires.0.stands.value_is.ends)),
   tells_missing c.args.query.now c.args.path c.args.i c.args.area.now c.args.tree.from c.args.tree.to (λ x. AddsTrees
       c.args.total c.args.total (given x)) (step_left c.requires.0 c.steps.ensures c.if-i-steps.false)
-      c.under-found.ensures c.in_default.is (given_none c.args.total),
+      c.under.ensures c.in_default.is (given_none c.args.total),
 )
 
 pub sum_walk-overflow_add-i : goal.sum_walk-overflow_add-i
@@ -95,17 +95,17 @@ sum_walk-sum_over-requires t c = (
   ),
   (
     walk_part c.requires.0 (step_left c.requires.0 c.steps.ensures c.if-i-steps.false)
-        c.under-found.ensures c.in-Part.is,
-    ready_within (part_places c.requires.0 c.under-found.ensures c.in-Part.is)
+        c.under.ensures c.in-Some.is,
+    ready_within (part_places c.requires.0 c.under.ensures c.in-Some.is)
         c.requires.1,
   ),
 )
 
 pub sum_walk-returns : goal.sum_walk-returns
 sum_walk-returns t c = (
-  summed_within (part_places c.requires.0 c.under-found.ensures c.in-Part.is) c.sum_over.ensures.0,
+  summed_within (part_places c.requires.0 c.under.ensures c.in-Some.is) c.sum_over.ensures.0,
   tells_part
       c.args.query.now c.args.path c.args.i c.args.area.now c.args.tree.from c.args.tree.to (λ x. AddsTrees c.args.total
-      c.sum_over.result (given x)) (step_left c.requires.0 c.steps.ensures c.if-i-steps.false) c.under-found.ensures
-      c.in-Part.is c.sum_over.ensures.1,
+      c.sum_over.result (given x)) (step_left c.requires.0 c.steps.ensures c.if-i-steps.false) c.under.ensures
+      c.in-Some.is c.sum_over.ensures.1,
 )

@@ -1,6 +1,6 @@
 -- The proof of totals::sum::sum_trees, by answers to its goals: what is right for the trees from `at` on, with the total so
 -- far, is right for all.
-use Rattle.std.proofs.Common.{arith, refl, ◌-◌}
+use Rattle.std.proofs.Common.{arith, refl}
 use Rattle.format.specs.StandLaws.{trees_places, holds_first, holds_rest}
 use Rattle.totals.specs.SumLaws.{summed_same, summed_seq, summed_end, ready_next, ready_first, trees_end, trees_next}
 use Rattle.totals.proofs.sum.sum_trees.Goals as goal

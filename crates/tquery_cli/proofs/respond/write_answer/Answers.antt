@@ -4,16 +4,16 @@ use Rattle.tquery_cli.specs.RespondLaws.{show_length, show_room, show_result, sh
 use Rattle.tquery_cli.proofs.respond.write_answer.Goals as goal
 
 pub slice_bounds-write_hex-end : goal.slice_bounds-write_hex-end
-slice_bounds-write_hex-end c = sym (show_length c.requires c.in-Accepted.is)
+slice_bounds-write_hex-end c = sym (show_length c.requires c.in-Ok.is)
 
 pub write_hex-requires : goal.write_hex-requires
-write_hex-requires c = show_room c.requires c.in-Accepted.is
+write_hex-requires c = show_room c.requires c.in-Ok.is
 
 pub write_refused-requires : goal.write_refused-requires
-write_refused-requires c = (c.requires.refusal, refusal_small c.in-Refused.r c.refusal_number.ensures)
+write_refused-requires c = (c.requires.refusal, refusal_small c.in-Err.r c.refusal_number.ensures)
 
-pub returns-in-Accepted : goal.returns-in-Accepted
-returns-in-Accepted c = show_result c.in-Accepted.is c.write_hex.ensures
+pub returns-in-Ok : goal.returns-in-Ok
+returns-in-Ok c = show_result c.in-Ok.is c.write_hex.ensures
 
-pub returns-in-Refused : goal.returns-in-Refused
-returns-in-Refused c = show_refusal c.in-Refused.is c.refusal_number.ensures c.write_refused.ensures
+pub returns-in-Err : goal.returns-in-Err
+returns-in-Err c = show_refusal c.in-Err.is c.refusal_number.ensures c.write_refused.ensures

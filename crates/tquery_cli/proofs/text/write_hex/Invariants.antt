@@ -1,4 +1,4 @@
-use Rattle.std.proofs.Common.{◌≡◌, ◌+◌, ◌*◌, ◌-◌, ◌≤◌, length}
+use Rattle.std.proofs.Common.{◌≡◌, ◌+◌, ◌*◌, ◌≤◌, length}
 use Rattle.tquery_cli.specs.TextLaws.{HexWritten}
 use Rattle.tquery_cli.proofs.text.write_hex.Given as goal
 
@@ -6,6 +6,3 @@ abbrev pub invariant-loop-i : goal.invariant-loop-i
 invariant-loop-i l =
     (l.i ≤ length l.bytes) × (2 * length l.bytes + 1 ≤ length l.text) × (length l.text ≡ length l.initial.text) ×
     HexWritten l.text l.bytes l.i
-
-abbrev pub decreases-loop-i : goal.decreases-loop-i
-decreases-loop-i l = length l.bytes - l.i

@@ -1,7 +1,6 @@
 -- The proof of tracer::trace::trace, by answers to its goals.
-use Rattle.std.proofs.Common.{arith, sym, length-take-le}
-use borrow.Author.Tests.{not-true, not-false}
-use Rattle.tracer.specs.TraceLaws.{over_length, out_of_form, room_ready, traced_ends}
+use Rattle.std.proofs.Common.{arith}
+use Rattle.tracer.specs.TraceLaws.{one_of, over_length, out_of_form, traced_ends}
 use Rattle.tracer.proofs.trace.trace.Goals as goal
 
 pub returns-then-message-gt-MESSAGE : goal.returns-then-message-gt-MESSAGE
@@ -11,19 +10,10 @@ returns-then-message-gt-MESSAGE c =
 pub returns-then-not-read_lines : goal.returns-then-not-read_lines
 returns-then-not-read_lines c =
     out_of_form c.args.message.now c.args.res.now (omega (arith, c.if-message-gt-MESSAGE.false)) c.read_lines.ensures
-    (not-true c.read_lines.result c.if-not-read_lines.true-raw)
-
-pub slice_bounds-write_array-end-2 : goal.slice_bounds-write_array-end-2
-slice_bounds-write_array-end-2 c = sym (length-take-le c.least-room.result c.args.res.now c.least-room.ensures.0)
-
-pub write_array-written-requires : goal.write_array-written-requires
-write_array-written-requires c =
-    room_ready c.args.message.now c.args.res.now (omega (arith, c.if-message-gt-MESSAGE.false))
-    (c.read_lines.ensures.noted (not-false c.read_lines.result c.if-not-read_lines.false-raw)) c.least-room.ensures.0
-    (omega (arith, c.least-room.ensures.1))
+    c.if-not-read_lines.true
 
 pub returns : goal.returns
 returns c =
     traced_ends c.args.message.now c.args.res.now (omega (arith, c.if-message-gt-MESSAGE.false))
-    (c.read_lines.ensures.noted (not-false c.read_lines.result c.if-not-read_lines.false-raw)) c.least-room.ensures.0
-    c.write_array-written.auto.out c.write_array-written.ensures c.least-room.ensures.2 c.end_trace.ensures
+    (c.read_lines.ensures.noted c.if-not-read_lines.false) (omega arith)
+    c.write_array-written.auto.out c.write_array-written.ensures (one_of c.min-room.ensures) c.end_trace.ensures

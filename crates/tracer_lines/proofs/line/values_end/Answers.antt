@@ -1,6 +1,5 @@
 -- The proof of tracer_lines::line::values_end, by answers to its goals.
-use Rattle.std.proofs.Common.{arith, sym, ◌∙◌}
-use borrow.Author.Tests.{not-true, not-false}
+use Rattle.std.proofs.Common.{arith, sym}
 use Rattle.spec_tracer.specs.Message.{semicolon, is_value_byte}
 use Rattle.tracer_lines.specs.PieceLaws.{piece_above}
 use Rattle.tracer_lines.specs.LineLaws.{stands_inside, first_long, first_alone, second_long, second_at}
@@ -21,14 +20,13 @@ returns-then-not-stands c =
     first_alone c.args.message.now c.args.from c.requires c.value_end-first.ensures (omega (
       arith,
       c.if-first-from-gt-VALUE.false,
-    )) (sym c.stands.ensures ∙ not-true c.stands.result c.if-not-stands.true-raw)
+    )) (sym c.if-not-stands.ensures)
 
 pub value_end-second-requires : goal.value_end-second-requires
 value_end-second-requires c =
     (omega (
       arith,
-      stands_inside c.args.message.now c.value_end-first.result semicolon (sym c.stands.ensures ∙ not-false
-          c.stands.result c.if-not-stands.false-raw),
+      stands_inside c.args.message.now c.value_end-first.result semicolon (sym c.if-not-stands.ensures),
     ))
 
 pub overflow_sub-second : goal.overflow_sub-second
@@ -36,7 +34,7 @@ overflow_sub-second c =
     piece_above is_value_byte c.args.message.now _ (omega (
       arith,
       stands_inside c.args.message.now
-          c.value_end-first.result semicolon (sym c.stands.ensures ∙ not-false c.stands.result c.if-not-stands.false-raw),
+          c.value_end-first.result semicolon (sym c.if-not-stands.ensures),
     ))
     c.value_end-second.ensures
 
@@ -45,7 +43,7 @@ returns-then-second-first-gt-VALUE c =
     second_long c.args.message.now c.args.from c.requires c.value_end-first.ensures (omega (
       arith,
       c.if-first-from-gt-VALUE.false,
-    )) (sym c.stands.ensures ∙ not-false c.stands.result c.if-not-stands.false-raw)
+    )) (sym c.if-not-stands.ensures)
     c.value_end-second.ensures (omega (arith, c.if-second-first-gt-VALUE.true))
 
 pub returns : goal.returns
@@ -53,5 +51,5 @@ returns c =
     second_at c.args.message.now c.args.from c.requires c.value_end-first.ensures (omega (
       arith,
       c.if-first-from-gt-VALUE.false,
-    )) (sym c.stands.ensures ∙ not-false c.stands.result c.if-not-stands.false-raw)
+    )) (sym c.if-not-stands.ensures)
     c.value_end-second.ensures (omega (arith, c.if-second-first-gt-VALUE.false))

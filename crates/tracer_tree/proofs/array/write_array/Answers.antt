@@ -1,15 +1,10 @@
 -- The proof of tracer_tree::array::write_array, by answers to its goals.
 use Rattle.std.proofs.Common.{arith, ◌∙◌}
-use Rattle.tracer_tree.specs.ArrayLaws.{array_large, labels_ready, tree_finishable, array_finishable, array_wrote}
+use Rattle.tracer_tree.specs.ArrayLaws.{array_large, tree_finishable, array_finishable, array_wrote}
 use Rattle.tracer_tree.proofs.array.write_array.Goals as goal
 
 pub returns-then-to-lt-HEADS : goal.returns-then-to-lt-HEADS
 returns-then-to-lt-HEADS c = array_large c.args.message.now c.args.places.now c.args.out.now c.if-to-lt-HEADS.true
-
-pub write_labels-written-requires : goal.write_labels-written-requires
-write_labels-written-requires c =
-    labels_ready c.args.message.now c.args.places.now c.args.out.now c.if-to-lt-HEADS.false c.put_head.auto.work
-    c.put_head.ensures c.requires
 
 pub finish-tree-requires : goal.finish-tree-requires
 finish-tree-requires c = (

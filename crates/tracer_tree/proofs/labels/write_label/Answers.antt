@@ -1,21 +1,21 @@
 -- The proof of tracer_tree::labels::write_label, by answers to its goals.
 use Rattle.std.proofs.Common.{arith}
-use Rattle.tracer_tree.specs.LabelsLaws.{place_inside, label_none, label_large, label_behind, label_some}
+use Rattle.tracer_tree.specs.LabelsLaws.{label_none, label_large, label_behind, label_some}
 use Rattle.tracer_tree.proofs.labels.write_label.Goals as goal
 
-pub returns-then-from-eq0 : goal.returns-then-from-eq0
-returns-then-from-eq0 c =
-    label_none c.args.message.now c.args.from c.args.label c.args.out.now c.args.room.from c.args.room.to
-    c.if-from-eq0.true c.requires.room_in.above
+pub returns-in_default : goal.returns-in_default
+returns-in_default c =
+    label_none c.args.message.now c.args.label c.args.out.now c.args.room.from c.args.room.to
+    c.in_default.is c.requires.room_in.above
 
 pub returns-then-to-at : goal.returns-then-to-at
 returns-then-to-at c =
-    label_large c.args.message.now c.args.from c.args.label c.args.out.now c.args.room.from c.args.room.to
-    c.if-from-eq0.false c.heads-begin.ensures c.requires.room_in.above c.if-to-at.true
+    label_large c.args.message.now c.args.label c.args.out.now c.args.room.from c.args.room.to
+    c.in-Some.is c.heads-begin.ensures c.requires.room_in.above c.if-to-at.true
 
 pub write_values-written-requires : goal.write_values-written-requires
 write_values-written-requires c = (
-  place_inside c.requires.place,
+  (c.requires.place.there c.in-Some.from c.in-Some.is).inside,
   omega (arith, c.if-to-at.false, c.requires.room_in.above),
   c.requires.room_in.inside,
   c.requires.room_in.lent,
@@ -23,8 +23,8 @@ write_values-written-requires c = (
 
 pub entry-requires : goal.entry-requires
 entry-requires c = (
-  label_behind c.args.message.now c.args.from c.args.label c.args.out.now c.args.room.from c.args.room.to
-      c.if-from-eq0.false c.heads-begin.ensures c.write_values-written.ensures c.requires.place (omega (
+  label_behind c.args.message.now c.args.label c.args.out.now c.args.room.from c.args.room.to
+      c.in-Some.is c.heads-begin.ensures c.write_values-written.ensures c.requires.place (omega (
         arith,
         c.requires.room_in.inside,
         c.write_values-written.auto.out,
@@ -39,8 +39,8 @@ entry-requires c = (
 
 pub returns : goal.returns
 returns c =
-    label_some c.args.message.now c.args.from c.args.label c.args.out.now c.args.room.from c.args.room.to
-    c.if-from-eq0.false c.heads-begin.ensures c.write_values-written.ensures (omega (
+    label_some c.args.message.now c.args.label c.args.out.now c.args.room.from c.args.room.to
+    c.in-Some.is c.heads-begin.ensures c.write_values-written.ensures (omega (
       arith,
       c.if-to-at.false,
       c.requires.room_in.above,

@@ -1,66 +1,40 @@
 -- The proof of tracer_tree::number::amount_at, by answers to its goals.
-use Rattle.std.proofs.Common.{arith, sym, ap, ◌∙◌, ◌+◌, ◌*◌}
+use Rattle.std.proofs.Common.{arith, sym, ap, ◌∙◌, ◌+◌, ◌*◌, Some, inl, inr}
 use Rattle.spec_tracer.specs.Message.{is_digit}
 use Rattle.tracer_lines.specs.PieceLaws.{piece_above, piece_inside}
 use Rattle.tracer_tree.specs.Number.{amount_of}
-use Rattle.tracer_tree.specs.declared.number.Amount.{Amount}
-use Rattle.tracer_tree.specs.NumberLaws.{answer_digitless, answer_long, digits_at, amount_none, amount_some, amount_small, few_none, few_some}
+use Rattle.tracer_tree.specs.NumberLaws.{amount_digitless, amount_long, digits_at, amount_none, amount_small, amount_answer}
 use Rattle.tracer_tree.proofs.number.amount_at.Goals as goal
 
 pub overflow_sub-count : goal.overflow_sub-count
 overflow_sub-count c = piece_above is_digit c.args.value.now c.args.from c.requires c.digits_end-end.ensures
 
 pub returns-then-count-eq0 : goal.returns-then-count-eq0
-returns-then-count-eq0 c =
-    answer_digitless c.args.value.now c.args.from c.requires c.digits_end-end.ensures c.if-count-eq0.true
+returns-then-count-eq0 c = elim c.then-count-eq0.either [
+  | inl q ↦ sym (ap amount_of (amount_digitless c.args.value.now c.args.from c.requires c.digits_end-end.ensures q))
+  | inr q ↦ sym (ap amount_of (amount_long c.args.value.now c.args.from c.requires c.digits_end-end.ensures q.1))
+]
 
-pub returns-then-count-gt-WHOLE : goal.returns-then-count-gt-WHOLE
-returns-then-count-gt-WHOLE c =
-    answer_long c.args.value.now c.args.from c.requires c.digits_end-end.ensures c.if-count-gt-WHOLE.true
+pub slice_bounds-fraction-count : goal.slice_bounds-fraction-count
+slice_bounds-fraction-count c = piece_inside is_digit c.args.value.now c.args.from c.requires c.digits_end-end.ensures
 
-pub fraction_at-part-requires : goal.fraction_at-part-requires
-fraction_at-part-requires c = piece_inside is_digit c.args.value.now c.args.from c.requires c.digits_end-end.ensures
+pub slice_bounds-fraction-start : goal.slice_bounds-fraction-start
+slice_bounds-fraction-start c = piece_inside is_digit c.args.value.now c.args.from c.requires c.digits_end-end.ensures
 
-pub returns-in_default : goal.returns-in_default
-returns-in_default c = (
-  sym (amount_none c.args.value.now c.args.from c.requires c.digits_end-end.ensures c.if-count-eq0.false
-      c.if-count-gt-WHOLE.false c.fraction_at-part.ensures c.in_default.is),
-  few_none,
-)
+pub returns-in_err-hundredths : goal.returns-in_err-hundredths
+returns-in_err-hundredths c = c.from_residual.ensures ∙ amount_none c.args.value.now c.args.from c.requires c.digits_end-end.ensures c.if-count-eq0.false c.if-count-gt-WHOLE.false c.fraction.ensures c.in_err-hundredths.was
+
+pub slice_bounds-whole-end : goal.slice_bounds-whole-end
+slice_bounds-whole-end c = piece_inside is_digit c.args.value.now c.args.from c.requires c.digits_end-end.ensures
 
 pub whole-requires : goal.whole-requires
-whole-requires c =
-    digits_at c.args.value.now c.args.from c.requires c.digits_end-end.ensures c.if-count-eq0.false
-    c.if-count-gt-WHOLE.false
+whole-requires c = digits_at c.args.value.now c.args.from c.requires c.digits_end-end.ensures c.if-count-eq0.false c.if-count-gt-WHOLE.false
 
 pub overflow_mul-result : goal.overflow_mul-result
-overflow_mul-result c =
-    omega (
-      arith,
-      amount_small c.args.value.now c.args.from c.requires c.digits_end-end.ensures c.if-count-eq0.false
-          c.if-count-gt-WHOLE.false c.fraction_at-part.ensures c.in-Hundredths.is,
-      c.whole.ensures,
-    )
+overflow_mul-result c = omega (arith, amount_small c.args.value.now c.args.from c.requires c.digits_end-end.ensures c.if-count-eq0.false c.if-count-gt-WHOLE.false c.fraction.ensures c.in_ok-hundredths.was, c.whole.ensures)
 
 pub overflow_add-result : goal.overflow_add-result
-overflow_add-result c =
-    omega (
-      arith,
-      amount_small c.args.value.now c.args.from c.requires c.digits_end-end.ensures c.if-count-eq0.false
-          c.if-count-gt-WHOLE.false c.fraction_at-part.ensures c.in-Hundredths.is,
-      c.whole.ensures,
-    )
+overflow_add-result c = omega (arith, amount_small c.args.value.now c.args.from c.requires c.digits_end-end.ensures c.if-count-eq0.false c.if-count-gt-WHOLE.false c.fraction.ensures c.in_ok-hundredths.was, c.whole.ensures)
 
 pub returns : goal.returns
-returns c = (
-  ap (λ n. Amount.Hundredths (n * 100 + c.in-Hundredths.hundredths)) c.whole.ensures ∙ sym (ap amount_of (amount_some
-      c.args.value.now c.args.from c.requires c.digits_end-end.ensures c.if-count-eq0.false c.if-count-gt-WHOLE.false
-      c.fraction_at-part.ensures c.in-Hundredths.is)),
-  few_some (omega (
-    arith,
-    amount_small c.args.value.now c.args.from
-        c.requires c.digits_end-end.ensures c.if-count-eq0.false c.if-count-gt-WHOLE.false c.fraction_at-part.ensures
-        c.in-Hundredths.is,
-    c.whole.ensures,
-  )),
-)
+returns c = ap (λ n. Some (n * 100 + c.in_ok-hundredths.hundredths)) c.whole.ensures ∙ amount_answer c.args.value.now c.args.from c.requires c.digits_end-end.ensures c.if-count-eq0.false c.if-count-gt-WHOLE.false c.fraction.ensures c.in_ok-hundredths.was

@@ -2,8 +2,8 @@
 use Rattle.tracer_tree.specs.NumberLaws.{digit_least, digit_said}
 use Rattle.tracer_tree.proofs.number.digit_value.Goals as goal
 
-pub overflow_sub-result : goal.overflow_sub-result
-overflow_sub-result c = digit_least c.args.byte c.requires
+pub overflow_sub-byte : goal.overflow_sub-byte
+overflow_sub-byte c = digit_least c.args.byte c.requires
 
 pub returns : goal.returns
-returns c = digit_said c.args.byte c.requires
+returns c = rw c.from.ensures (digit_said c.args.byte c.requires)

@@ -13,9 +13,9 @@ returns-then-label-eq-JOB c =
 pub returns-in_default : goal.returns-in_default
 returns-in_default c =
     wrote_same (text_bytes c.args.label c.args.value.now c.if-value-eq0.false c.if-label-eq-JOB.false
-    c.read_number-read.ensures c.in_default.is) c.put_root-in_default.ensures
+    c.read_number.ensures c.in_default.is) c.put_root-in_default.ensures
 
 pub returns : goal.returns
 returns c =
     wrote_same (number_bytes_lem c.args.label c.args.value.now c.if-value-eq0.false c.if-label-eq-JOB.false
-    c.read_number-read.ensures c.in-Bits.is) c.put_integer.ensures
+    c.read_number.ensures c.in-Some.is) c.put_integer.ensures

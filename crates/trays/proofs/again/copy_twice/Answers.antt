@@ -1,5 +1,5 @@
 -- The proof of trays::again::copy_twice, by answers to its goals.
-use Rattle.std.proofs.Common.{◌-◌, arith, length-set}
+use Rattle.std.proofs.Common.{arith, length-set}
 use Rattle.trays.specs.AgainLaws.{twice_begin, twice_next, twice_end}
 use Rattle.trays.proofs.again.copy_twice.Goals as goal
 

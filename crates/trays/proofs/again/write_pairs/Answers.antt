@@ -1,6 +1,6 @@
 -- The proof of trays::again::write_pairs, by answers to its goals: what is written behind `to` for the pairs from `from`
 -- on makes all of them written.
-use Rattle.std.proofs.Common.{refl, ◌-◌, arith}
+use Rattle.std.proofs.Common.{refl, arith}
 use Rattle.spec_queries.specs.Bytes.{pair_f}
 use Rattle.queries.specs.PartLaws.{list_places, list_first}
 use Rattle.trays.specs.AgainLaws.{pairs_begin, pairs_held, pairs_end, pairs_room, pairs_next}

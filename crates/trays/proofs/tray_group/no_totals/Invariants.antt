@@ -1,14 +1,12 @@
-use Rattle.std.proofs.Common.{Bool, ◌-◌}
+use Rattle.std.proofs.Common.{Bool}
 use Rattle.areas.specs.Area.{span}
 use Rattle.format.specs.Stand.{Holds}
+use Rattle.format.specs.Fields.{Going}
 use Rattle.queries.specs.Places.{pairs_bytes}
 use Rattle.trays.specs.TrayGroup.{NoTotalsIs}
 use Rattle.trays.proofs.tray_group.no_totals.Given as goal
 
-abbrev pub invariant-loop-at : goal.invariant-loop-at
-invariant-loop-at l =
-    Holds pairs_bytes l.query l.at l.end × ((r : Bool) → NoTotalsIs l.query (span l.at l.end) r → NoTotalsIs l.query
-    (span l.initial.at l.end) r)
-
-abbrev pub decreases-loop-at : goal.decreases-loop-at
-decreases-loop-at l = l.end - l.at
+abbrev pub invariant-loop-pair : goal.invariant-loop-pair
+invariant-loop-pair l =
+    Going l.query l.fn.pairs.to (λ at. Holds pairs_bytes l.query at l.fn.pairs.to × ((r : Bool) → NoTotalsIs l.query
+    (span at l.fn.pairs.to) r → NoTotalsIs l.query l.fn.pairs r)) l.pair-iterator

@@ -13,26 +13,26 @@ pub returns-then-field_end-end : goal.returns-then-field_end-end
 returns-then-field_end-end c =
     query_more c.stages_of-stages.ensures c.if-stages-end.false c.field_end.ensures c.if-field_end-end.true
 
-pub stage_at-stage-requires : goal.stage_at-stage-requires
-stage_at-stage-requires c =
+pub stage_at-requires : goal.stage_at-requires
+stage_at-requires c =
     query_stage c.stages_of-stages.ensures c.if-stages-end.false c.field_end.ensures c.if-field_end-end.false c.requires
 
-pub returns-in_default : goal.returns-in_default
-returns-in_default c =
-    query_plain c.stages_of-stages.ensures c.if-stages-end.false c.field_end.ensures c.if-field_end-end.false
-    c.stage_at-stage.ensures c.group_of-found.ensures c.in_default.is
+pub returns-in_err-group : goal.returns-in_err-group
+returns-in_err-group c =
+    rw c.from_residual.ensures (query_plain c.stages_of-stages.ensures c.if-stages-end.false c.field_end.ensures c.if-field_end-end.false
+    c.stage_at.ensures c.group.ensures c.in_err-group.was)
 
 pub regroups-requires : goal.regroups-requires
 regroups-requires c =
     query_group c.stages_of-stages.ensures c.if-stages-end.false c.field_end.ensures c.if-field_end-end.false
-    c.stage_at-stage.ensures c.group_of-found.ensures c.in-At.is c.requires
+    c.stage_at.ensures c.group.ensures c.in_ok-group.was c.requires
 
-pub returns-then-regroups : goal.returns-then-regroups
-returns-then-regroups c =
+pub returns : goal.returns
+returns c =
     query_such c.stages_of-stages.ensures c.if-stages-end.false c.field_end.ensures c.if-field_end-end.false
-    c.stage_at-stage.ensures c.group_of-found.ensures c.in-At.is c.regroups.ensures c.if-regroups.true
+    c.stage_at.ensures c.group.ensures c.in_ok-group.was c.regroups.ensures c.if-not-regroups.false
 
-pub returns-else-regroups : goal.returns-else-regroups
-returns-else-regroups c =
+pub returns-then-not-regroups : goal.returns-then-not-regroups
+returns-then-not-regroups c =
     query_not_such c.stages_of-stages.ensures c.if-stages-end.false c.field_end.ensures c.if-field_end-end.false
-    c.stage_at-stage.ensures c.group_of-found.ensures c.in-At.is c.regroups.ensures c.if-regroups.false
+    c.stage_at.ensures c.group.ensures c.in_ok-group.was c.regroups.ensures c.if-not-regroups.true

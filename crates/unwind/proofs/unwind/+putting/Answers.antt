@@ -1,6 +1,6 @@
 -- The proof of the cycle that writes the j-th outcome, by answers to its goals: a label takes one step of the path, and
 -- what is right from `at` on, for the outcomes that are still asked, is right for all.
-use Rattle.std.proofs.Common.{arith, refl, ◌∙◌, ◌-◌}
+use Rattle.std.proofs.Common.{arith, refl, ◌∙◌}
 use Rattle.queries.specs.StepLaws.{steps_fewer}
 use Rattle.place.specs.WriterLaws.{along_room, along_inside, along_small, step_before, ready_places, ready_labels}
 use Rattle.unwind.specs.OutcomeLaws.{sound_plain, sound_places, sound_array, sound_room, sound_around, nth_end, nth_missing, nth_inner_past, nth_inner_written, nth_none, nth_here, nth_next, sounds_first, sounds_rest, sounds_end}
@@ -26,24 +26,24 @@ put_nth-overflow_add-tree t c = omega (arith, ready_places (sound_plain c.requir
 pub put_nth-field_end-requires : goal.put_nth-field_end-requires
 put_nth-field_end-requires t c = omega (arith, ready_places (sound_plain c.requires.0 c.requires.1) refl)
 
-pub put_nth-find-found-requires : goal.put_nth-find-found-requires
-put_nth-find-found-requires t c = ready_labels (sound_plain c.requires.0 c.requires.1) c.field_end.ensures
+pub put_nth-find-requires : goal.put_nth-find-requires
+put_nth-find-requires t c = ready_labels (sound_plain c.requires.0 c.requires.1) c.field_end.ensures
 
 pub put_nth-returns-in_default : goal.put_nth-returns-in_default
 put_nth-returns-in_default t c =
     nth_missing c.args.query.now c.args.path c.args.i (step_before c.requires.0.step c.steps.ensures c.if-i-steps.false)
-    c.step_at-label.ensures c.field_end.ensures c.find-found.ensures c.args.j c.args.room.from c.args.room.to
+    c.step_at-label.ensures c.field_end.ensures c.find.ensures c.args.j c.args.room.from c.args.room.to
     c.in_default.is
 
 pub put_nth-overflow_sub-at : goal.put_nth-overflow_sub-at
 put_nth-overflow_sub-at t c =
-    omega (arith, (sound_places c.requires.0 c.requires.1 c.field_end.ensures c.find-found.ensures c.in-Part.is))
+    omega (arith, (sound_places c.requires.0 c.requires.1 c.field_end.ensures c.find.ensures c.in-Some.is))
 
 pub put_nth-overflow_add-at : goal.put_nth-overflow_add-at
 put_nth-overflow_add-at t c =
     omega (
       arith,
-      (sound_places c.requires.0 c.requires.1 c.field_end.ensures c.find-found.ensures c.in-Part.is),
+      (sound_places c.requires.0 c.requires.1 c.field_end.ensures c.find.ensures c.in-Some.is),
       c.requires.1,
       c.requires.0.inside,
     )
@@ -67,22 +67,22 @@ put_nth-put_nth_each-inner-requires t c = (
         c.args.query.now c.args.path),
   ),
   (
-    sound_array c.requires.0 c.requires.1 c.field_end.ensures c.find-found.ensures
-        c.in-Part.is (step_before c.requires.0.step c.steps.ensures c.if-i-steps.false),
+    sound_array c.requires.0 c.requires.1 c.field_end.ensures c.find.ensures
+        c.in-Some.is (step_before c.requires.0.step c.steps.ensures c.if-i-steps.false),
     sound_room c.requires.0
-        c.requires.1 c.field_end.ensures c.find-found.ensures c.in-Part.is,
+        c.requires.1 c.field_end.ensures c.find.ensures c.in-Some.is,
   ),
 )
 
 pub put_nth-returns-in_default-inner : goal.put_nth-returns-in_default-inner
 put_nth-returns-in_default-inner t c =
     nth_inner_past c.args.query.now c.args.path c.args.i (step_before c.requires.0.step c.steps.ensures
-    c.if-i-steps.false) c.step_at-label.ensures c.field_end.ensures c.find-found.ensures c.args.room.from c.in-Part.is
+    c.if-i-steps.false) c.step_at-label.ensures c.field_end.ensures c.find.ensures c.args.room.from c.in-Some.is
     c.put_nth_each-inner.ensures c.in_default-inner.is
 
 pub put_nth-surround-all-requires : goal.put_nth-surround-all-requires
 put_nth-surround-all-requires t c =
-    sound_around c.requires.0 c.requires.1 c.field_end.ensures c.find-found.ensures c.in-Part.is (step_before
+    sound_around c.requires.0 c.requires.1 c.field_end.ensures c.find.ensures c.in-Some.is (step_before
     c.requires.0.step c.steps.ensures c.if-i-steps.false) (omega (
       arith,
       c.step_at-label.ensures,
@@ -94,8 +94,8 @@ put_nth-surround-all-requires t c =
 pub put_nth-returns : goal.put_nth-returns
 put_nth-returns t c =
     nth_inner_written c.args.query.now c.args.path c.args.i (step_before c.requires.0.step c.steps.ensures
-    c.if-i-steps.false) c.step_at-label.ensures c.field_end.ensures c.find-found.ensures c.requires.0.inside
-    c.in-Part.is c.put_nth_each-inner.ensures c.in-Written.is c.surround-all.ensures
+    c.if-i-steps.false) c.step_at-label.ensures c.field_end.ensures c.find.ensures c.requires.0.inside
+    c.in-Some.is c.put_nth_each-inner.ensures c.in-Written.is c.surround-all.ensures
 
 pub put_nth_each-loop-at-init : goal.put_nth_each-loop-at-init
 put_nth_each-loop-at-init t c = (c.requires, refl, λ v r h. h)

@@ -1,6 +1,6 @@
 -- The proof of the cycle that counts outcomes, by answers to its goals: a label takes one step of the path, and what is
 -- right from `at` on is right for all. There are no more outcomes than bytes, so the sum fits.
-use Rattle.std.proofs.Common.{arith, refl, sym, ◌∙◌, ◌-◌, add_assoc, add-zero, zero-add}
+use Rattle.std.proofs.Common.{arith, refl, sym, ◌∙◌, add_assoc, add-zero, zero-add}
 use Rattle.format.specs.StandLaws.{tree_places, trees_places, holds_labels, holds_first, holds_rest}
 use Rattle.format.specs.LabelLaws.{holds_found}
 use Rattle.queries.specs.StepLaws.{steps_fewer}
@@ -24,13 +24,13 @@ pub outcomes-step_at-requires : goal.outcomes-step_at-requires
 outcomes-step_at-requires t c =
     along_inside c.requires.0 c.args.i (step_before c.requires.1 c.steps.ensures c.if-i-steps.false)
 
-pub outcomes-find-found-requires : goal.outcomes-find-found-requires
-outcomes-find-found-requires t c = holds_labels c.requires.2 c.field_end.ensures
+pub outcomes-find-requires : goal.outcomes-find-requires
+outcomes-find-requires t c = holds_labels c.requires.2 c.field_end.ensures
 
 pub outcomes-returns-in_default : goal.outcomes-returns-in_default
 outcomes-returns-in_default t c =
     count_missing c.args.i (step_before c.requires.1 c.steps.ensures c.if-i-steps.false) c.step_at.ensures
-    c.field_end.ensures c.find-found.ensures c.in_default.is
+    c.field_end.ensures c.find.ensures c.in_default.is
 
 pub outcomes-overflow_add-i : goal.outcomes-overflow_add-i
 outcomes-overflow_add-i t c =
@@ -58,14 +58,14 @@ outcomes-outcomes_each-requires t c = (
           c.if-i-steps.false),
     ),
     holds_found c.step_at.result (holds_labels c.requires.2 c.field_end.ensures)
-        c.find-found.ensures c.in-Part.is,
+        c.find.ensures c.in-Some.is,
   ),
 )
 
 pub outcomes-returns : goal.outcomes-returns
 outcomes-returns t c =
     count_part c.args.i (step_before c.requires.1 c.steps.ensures c.if-i-steps.false) c.step_at.ensures
-    c.field_end.ensures c.find-found.ensures c.in-Part.is c.outcomes_each.ensures
+    c.field_end.ensures c.find.ensures c.in-Some.is c.outcomes_each.ensures
 
 pub outcomes_each-loop-at-init : goal.outcomes_each-loop-at-init
 outcomes_each-loop-at-init t c = (omega arith, c.requires.2, λ r h. count_sum c.args.i (sym (zero-add r)) h)
