@@ -29,9 +29,12 @@ fn end_found(stretch: &[u8], most: usize) -> bool {
     told_apart(stretch, shorter, most) && told_apart(shorter, stretch, most)
 }
 
-/// Whether a stretch and its copy are found to be the same, in just so many steps, and all others that are tried are
-/// told apart.
-pub fn compare_copy(stretch: &[u8], copy: &mut [u8], steps: usize) -> Verdict {
+/// Whether a stretch and its copy, which stands at the beginning of a buffer, are found to be the same, in just so many
+/// steps, and all others that are tried are told apart.
+pub fn compare_copy(stretch: &[u8], buffer: &mut [u8], steps: usize) -> Verdict {
+    let copy = buffer
+        .get_mut(..stretch.len())
+        .ok_or(Difference::Malformed)?;
     let found = compare(stretch, copy);
     if !found.same {
         return Err(Difference::Outcome);

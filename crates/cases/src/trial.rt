@@ -85,18 +85,16 @@ fn compare_areas(expected: Expected, work: &[u8], res: &[u8]) -> Verdict {
     Ok(())
 }
 
-/// Calls the engine with a work area and a result area that have the lengths that are asked for, and compares its
-/// answer and the areas.
+/// Calls the engine with a work area, which is full of 170, and a result area that has the length that is asked for,
+/// and compares its answer and the areas.
 fn compare_call<F: FnOnce(&mut [u8], &mut [u8]) -> Answer>(
-    work: usize,
+    work: &mut [u8],
     expected: Expected,
     call: F,
 ) -> Verdict
     requires { F.IsAlwaysCallable call }
 {
-    let mut work_bytes = [170u8; WORK];
     let mut result_bytes = [187u8; ROOM];
-    let work = work_bytes.get_mut(..work).ok_or(Difference::Malformed)?;
     let res = result_bytes
         .get_mut(..expected.room)
         .ok_or(Difference::Malformed)?;
@@ -110,6 +108,19 @@ fn compare_call<F: FnOnce(&mut [u8], &mut [u8]) -> Answer>(
     compare_areas(expected, work, res)
 }
 
+/// The same with a work area that has the length that is asked for. The call of a message has none, and fills none.
+fn compare_with_work<F: FnOnce(&mut [u8], &mut [u8]) -> Answer>(
+    work: usize,
+    expected: Expected,
+    call: F,
+) -> Verdict
+    requires { F.IsAlwaysCallable call }
+{
+    let mut work_bytes = [170u8; WORK];
+    let work = work_bytes.get_mut(..work).ok_or(Difference::Malformed)?;
+    compare_call(work, expected, call)
+}
+
 /// Compares the position area of a run, where all else is as expected. If no positions are stated, those of an accepted
 /// run are not compared.
 fn compare_positions(number: u64, stated: Option<Stated>, area: &[u16]) -> Verdict {
@@ -118,7 +129,7 @@ fn compare_positions(number: u64, stated: Option<Stated>, area: &[u16]) -> Verdi
         None if number == 0 => return Ok(()),
         None => &[],
     };
-    if !entries_are(area, positions, rest_entry(number)) {
+    if !entries_are(area, positions, usize::from(rest_entry(number))) {
         return Err(Difference::Positions);
     }
     Ok(())
@@ -130,7 +141,7 @@ pub fn compare_run(case: Case, stated: Option<Stated>) -> Verdict {
     let mut area = [FILLED; ENTRIES];
     let entries = stated.map_or(Limits::POSITIONS, |s| s.entries);
     let area = area.get_mut(..entries).ok_or(Difference::Malformed)?;
-    compare_call(case.work, case.expected, |work, res| {
+    compare_with_work(case.work, case.expected, |work, res| {
         run(case.query, case.first, case.second, work, res, area)
     })?;
     compare_positions(case.expected.number, stated, area)
@@ -138,14 +149,14 @@ pub fn compare_run(case: Case, stated: Option<Stated>) -> Verdict {
 
 /// Regroups the arrays of a case, and compares it with what is expected.
 pub fn compare_regroup(case: Case) -> Verdict {
-    compare_call(case.work, case.expected, |work, res| {
+    compare_with_work(case.work, case.expected, |work, res| {
         regroup(case.query, case.first, case.second, work, res)
     })
 }
 
 /// Traces a message, and compares it with what is expected. The call has no work area.
 pub fn compare_trace(message: &[u8], expected: Expected) -> Verdict {
-    compare_call(0, expected, |_, res| trace(message, res))
+    compare_call(&mut [], expected, |_, res| trace(message, res))
 }
 
 /// Compares the number of a check with the one that is expected.

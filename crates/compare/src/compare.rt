@@ -22,14 +22,16 @@ pub fn compare(one: &[u8], other: &[u8]) -> Comparison
     if one.len() != other.len() {
         return Comparison { same: false, steps };
     }
-    let whole = one.len() / 8 * 8;
-    for i in (whole..one.len()).rev() {
+    let mut i = one.len();
+    // by hand, since a `for` has no measure: here it is what is left to do, in steps
+    while i % 8 != 0 {
+        i -= 1;
         steps += 1;
         if one[i] != other[i] {
             return Comparison { same: false, steps };
         }
     }
-    compare_words(one, other, whole, steps)
+    compare_words(one, other, i, steps)
 }
 
 /// Whether two areas hold the same bytes.

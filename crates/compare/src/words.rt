@@ -35,10 +35,12 @@ pub fn compare_words(one: &[u8], other: &[u8], end: usize, taken: usize) -> Comp
     ensures { IsComparison one.now other.now result }
 {
     let mut steps = taken;
-    for i in (0..end / 8).rev() {
-        let at = 8 * i;
+    let mut i = end;
+    // by hand, as the loop over single bytes
+    while 8 <= i {
+        i -= 8;
         steps += 1;
-        if word(one, at) != word(other, at) {
+        if word(one, i) != word(other, i) {
             return Comparison { same: false, steps };
         }
     }

@@ -15,13 +15,13 @@ pub fn count<R: Read, W: Write>(input: &mut R, out: &mut W) -> io::Result<()> {
             Ok(Some(Ok(()))) => agree += 1,
             Ok(Some(Err(difference))) if agree == before => writeln!(out, "{case}: {difference}")?,
             Ok(Some(Err(_))) => {}
-            Ok(None) => return say_total(out, before, "cases", agree),
+            Ok(None) => return say_total(out, before, b"cases", agree),
             Err(RecordError::Malformed) => {
                 writeln!(out, "malformed record {case}")?;
-                return say_total(out, before, "cases", agree);
+                return say_total(out, before, b"cases", agree);
             }
             Err(RecordError::Io(error)) => return Err(error),
         }
     }
-    say_total(out, u64::MAX, "cases", agree)
+    say_total(out, u64::MAX, b"cases", agree)
 }

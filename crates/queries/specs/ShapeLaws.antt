@@ -20,7 +20,7 @@ use Rattle.format.specs.HeadLaws.{some_map}
 use Rattle.queries.specs.declared.table.Child.{Child}
 use Rattle.queries.specs.declared.table.Rule.{Rule}
 use Rattle.queries.specs.declared.table.Kind.{Kind}
-use Rattle.queries.specs.Table.{kind_at, child_at, rule, holds_nothing, holds_one, holds_two, holds_three, holds_many, never}
+use Rattle.queries.specs.Table.{child_by, child_at, rule, holds_nothing, holds_one, holds_two, holds_three, holds_many, never}
 use Rattle.queries.specs.Accept.{child_ok, children_ok, content_ok}
 
 -- ---- tests
@@ -53,7 +53,7 @@ module _ (ok : Field → Bool) where
 
   -- the same of a kind of the table
   pub record Reads {A : Type 0} (r : Reader A) (k : Kind) : Type 0 where
-    pub takes : Takes r (kind_at k)
+    pub takes : Takes r (child_by k)
 
   -- n children behind others, and no more; one_at is the last of them
   module _ (i j k : Kind) where
@@ -85,8 +85,8 @@ module _ (ok : Field → Bool) where
         some_bind (r f) _ (children_ok ok (exact (suc (suc (suc n)))) (suc n) fs) (λ a. two_at_lem (g a) s t (suc n) e p fs)
         ∙ rw (lt-ltb n (suc (suc (suc n))) (omega arith)) (and_same _ _ (h f) refl)
 
-  module _ {A : Type 0} (r : Reader A) (k : Kind) (n m : ℕ) (h : Takes r (kind_at k)) where
-    kind_same : (i : ℕ) → child_at (holds_many k n m) i ≡ kind_at k
+  module _ {A : Type 0} (r : Reader A) (k : Kind) (n m : ℕ) (h : Takes r (child_by k)) where
+    kind_same : (i : ℕ) → child_at (holds_many k n m) i ≡ child_by k
     unfolding child_at
     kind_same zero = refl
     kind_same (suc zero) = refl

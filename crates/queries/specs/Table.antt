@@ -29,21 +29,21 @@ allowed ch t n = may_be ch t && leb ch.least n
 
 -- the kinds of children: a path that is applied (`Route`) has the same tags for now, one that must be given is not empty,
 -- and an aggregate is a pair, which may be a total
-unfoldable pub kind_at : Kind → Child
-kind_at Kind.Nothing = no_tags
-kind_at Kind.Array = range 1 1
-kind_at Kind.Stage = range 17 21
-kind_at Kind.Path = range 32 32
-kind_at Kind.Route = range 32 32
-kind_at Kind.Given = child 32 32 32 32 1
-kind_at Kind.Criterion = range 33 39
-kind_at Kind.Data = range 40 45
-kind_at Kind.Divisor = range 46 46
-kind_at Kind.Item = range 47 48
-kind_at Kind.Pair = range 49 49
-kind_at Kind.Aggregate = child 49 49 54 54 0
-kind_at Kind.Aggregates = range 50 50
-kind_at Kind.Grouping = range 51 51
+unfoldable pub child_by : Kind → Child
+child_by Kind.Nothing = no_tags
+child_by Kind.Array = range 1 1
+child_by Kind.Stage = range 17 21
+child_by Kind.Path = range 32 32
+child_by Kind.Route = range 32 32
+child_by Kind.Given = child 32 32 32 32 1
+child_by Kind.Criterion = range 33 39
+child_by Kind.Data = range 40 45
+child_by Kind.Divisor = range 46 46
+child_by Kind.Item = range 47 48
+child_by Kind.Pair = range 49 49
+child_by Kind.Aggregate = child 49 49 54 54 0
+child_by Kind.Aggregates = range 50 50
+child_by Kind.Grouping = range 51 51
 
 -- ---- rules
 -- by kinds, the first child, the second, and the rest; the least and the greatest count
@@ -52,9 +52,9 @@ rule first second rest least most = record { first = first; second = second; res
 
 -- what the child behind n others may be
 unfoldable pub child_at : Rule → ℕ → Child
-child_at r zero = kind_at r.first
-child_at r (suc zero) = kind_at r.second
-child_at r (suc (suc n)) = kind_at r.rest
+child_at r zero = child_by r.first
+child_at r (suc zero) = child_by r.second
+child_at r (suc (suc n)) = child_by r.rest
 
 -- no child; just one, two or three
 abbrev pub holds_nothing : Rule

@@ -17,7 +17,8 @@ use Rattle.spec_trees.specs.OptionLaws.{T_and}
 use Rattle.spec_queries.specs.Query.{always, exists, equal, same, negated, both, either, literal, path, listed, test, choice, reduced, datas, keep, place, pair_of, total_pair, match, unwind, project, group, lookup}
 use Rattle.spec_queries.specs.Decode.{path_r, path_r⁺, route_r, criterion_r, criterion_table, divisor_r, data_r, data_table, item_r, item_table, pair_r, aggregate_r, pairs_r, stage_r, stage_table, query_r}
 use Rattle.queries.specs.declared.table.Kind.TheVariants as Kind
-use Rattle.queries.specs.Table.{child, range, may_be, allowed, kind_at, never, rules, rule_at}
+use Rattle.queries.specs.Table.{child, no_tags, range, may_be, allowed, child_by, never, rules, rule_at}
+use Rattle.queries.specs.Numbers.{kinds, kind_at}
 use Rattle.queries.specs.Accept.{criterion_ok, data_ok, field_ok, child_ok, content_ok, by_rule, leaf, nested, deeper, by_table}
 use Rattle.queries.specs.ShapeLaws.{some_only, Takes, Reads, one_ok, two_ok, three_ok, many_ok, none_ok, never_ok}
 
@@ -86,35 +87,35 @@ chosen_outside low high (x ∷ xs) t c w o =
     differ (inr l) a b e = omega arith
 
 -- where no child may stand, no byte is the tag of one
-pub none_allowed : (t n : ℕ) → t < 256 → allowed (kind_at Kind.Nothing) t n ≡ false
-unfolding kind_at allowed may_be
+pub none_allowed : (t n : ℕ) → t < 256 → allowed (child_by Kind.Nothing) t n ≡ false
+unfolding child_by allowed may_be
 none_allowed zero n l = refl
 none_allowed (suc t) n l = rw (ne_eqb (suc t) 256 (λ e. omega arith), le-leb 1 (suc t) (omega arith), lt-leb (suc t) 0 (omega arith)) refl
 
 module _ (d : ℕ) where
   array_reads : Reads (field_ok d) array_r Kind.Array
-  unfolding kind_at field_ok array_r array_with
+  unfolding child_by field_ok array_r array_with
   array_reads = record { takes = tagged_reads d 1 _ (λ c. refl) }
 
   path_reads : Reads (field_ok d) path_r Kind.Path
-  unfolding kind_at field_ok path_r
+  unfolding child_by field_ok path_r
   path_reads = record { takes = tagged_reads d 32 _ (λ c. refl) }
 
   route_reads : Reads (field_ok d) route_r Kind.Route
-  unfolding kind_at
+  unfolding child_by
   route_reads = record { takes = path_reads.takes }
 
   divisor_reads : Reads (field_ok d) divisor_r Kind.Divisor
-  unfolding kind_at field_ok divisor_r
+  unfolding child_by field_ok divisor_r
   divisor_reads = record { takes = tagged_reads d 46 _ (λ c. refl) }
 
   pair_reads : Reads (field_ok d) pair_r Kind.Pair
-  unfolding kind_at field_ok pair_r
+  unfolding child_by field_ok pair_r
   pair_reads = record { takes = tagged_reads d 49 _ (λ c. refl) }
 
   -- a pair, which may be a total
   aggregate_reads : Reads (field_ok d) aggregate_r Kind.Aggregate
-  unfolding kind_at field_ok pair_r tagged only aggregate_r among chosen some?
+  unfolding child_by field_ok pair_r tagged only aggregate_r among chosen some?
   aggregate_reads = record {
     takes = kind_reads d 49 49 54 54 aggregate_r
         (λ t c a b. let e : t ≡ 49 = omega arith in rw e refl)
@@ -124,16 +125,16 @@ module _ (d : ℕ) where
   }
 
   aggregates_reads : Reads (field_ok d) (pairs_r aggregate_r 50 aggregates_max) Kind.Aggregates
-  unfolding kind_at field_ok pairs_r
+  unfolding child_by field_ok pairs_r
   aggregates_reads = record { takes = tagged_reads d 50 _ (λ c. refl) }
 
   grouping_reads : Reads (field_ok d) (pairs_r pair_r 51 grouping_max) Kind.Grouping
-  unfolding kind_at field_ok pairs_r
+  unfolding child_by field_ok pairs_r
   grouping_reads = record { takes = tagged_reads d 51 _ (λ c. refl) }
 
   -- a path not empty
   given_reads : Reads (field_ok d) path_r⁺ Kind.Given
-  unfolding kind_at path_r⁺ child_ok allowed may_be
+  unfolding child_by path_r⁺ child_ok allowed may_be
   given_reads = record {
     takes = λ f.
         some_only (leb 1 (length f.1)) (path_r f)
@@ -147,7 +148,7 @@ module _ (d : ℕ) where
       go false false x = refl
 
   stage_reads : Reads (field_ok d) stage_r Kind.Stage
-  unfolding kind_at field_ok stage_r among tags_within
+  unfolding child_by field_ok stage_r among tags_within
   stage_reads = record {
     takes = range_reads d 17 21 stage_r (omega arith)
         (λ t c a b. rw (lt-leb t 15 (omega arith), lt-leb t 16 (omega arith), le-leb t 31 (omega arith)) refl)
@@ -155,7 +156,7 @@ module _ (d : ℕ) where
   }
 
   item_reads : Reads (field_ok d) item_r Kind.Item
-  unfolding kind_at field_ok item_r among tags_within
+  unfolding child_by field_ok item_r among tags_within
   item_reads = record {
     takes = range_reads d 47 48 item_r (omega arith)
         (λ t c a b. rw (lt-leb t 15 (omega arith), lt-leb t 16 (omega arith), lt-leb t 31 (omega arith), lt-leb t 32 (omega arith), lt-leb t 39 (omega arith), lt-leb t 45 (omega arith), lt-leb t 46 (omega arith), le-leb t 48 b) refl)
@@ -176,7 +177,7 @@ criterion_outside zero t c o = refl
 criterion_outside (suc d) t c o = chosen_outside 33 39 (criterion_table (criterion_r d)) t c tt o
 
 criterion_reads : (d : ℕ) → Reads (field_ok d) (criterion_r d) Kind.Criterion
-unfolding kind_at criterion_ok
+unfolding child_by criterion_ok
 criterion_reads d = record { takes = range_reads d 33 39 (criterion_r d) (omega arith) (criterion_field d) (criterion_outside d) }
 
 data_outside : (d t : ℕ) (c : List ℕ) → Outside 40 45 t → some? (data_r d (t, c)) ≡ false
@@ -185,7 +186,7 @@ data_outside zero t c o = refl
 data_outside (suc d) t c o = chosen_outside 40 45 (data_table (criterion_r d) (data_r d)) t c tt o
 
 data_reads : (d : ℕ) → Reads (field_ok d) (data_r d) Kind.Data
-unfolding kind_at data_ok
+unfolding child_by data_ok
 data_reads d = record { takes = range_reads d 40 45 (data_r d) (omega arith) (data_field d) (data_outside d) }
 
 -- ---- the agreement
@@ -277,6 +278,55 @@ table_agrees t = go (ltb t 55) refl
     go : (b : Bool) → ltb t 55 ≡ b → Agrees t
     go true e = rw zero-add at (each_has Agrees 55 0 agreement t (leb-true (suc t) 55 e))
     go false e = above_agrees t (omega (arith, leb-false (suc t) 55 e))
+
+-- ---- beside the table's rows, and beside the kinds' numbers
+-- a number that is none of the list, the last one first, as a match leaves it
+abbrev pub NoneOf : ℕ → List ℕ → Type 0
+NoneOf t [] = Unit {0}
+NoneOf t (k ∷ ks) = NoneOf t ks × (t ≡ k → ⊥)
+
+unfoldable has : ℕ → List ℕ → Bool
+has t [] = false
+has t (k ∷ ks) = eqb t k || has t ks
+
+has_none : (t : ℕ) (ks : List ℕ) → NoneOf t ks → has t ks ≡ false
+unfolding has
+has_none t [] n = refl
+has_none t (k ∷ ks) n = rw (ne_eqb t k n.1) (has_none t ks n.0)
+
+-- f is x outside the list, by a look at each number below m
+module _ {A : Type 0} (f : ℕ → A) (x : A) (ks : List ℕ) where
+  abbrev Else : ℕ → Type 0
+  Else t = has t ks ≡ false → f t ≡ x
+
+  by_rows : (m : ℕ) → Each Else 0 m → ((t : ℕ) → m ≤ t → f t ≡ x) → (t : ℕ) → NoneOf t ks → f t ≡ x
+  by_rows m rows out t n = go (ltb t m) refl
+    where
+      go : (b : Bool) → ltb t m ≡ b → f t ≡ x
+      go true e = rw zero-add at (each_has Else m 0 rows t (leb-true (suc t) m e)) (has_none t ks n)
+      go false e = out t (omega (arith, leb-false (suc t) m e))
+
+-- a row that the list has, and one that is x
+listed_row : {A : Type 0} {a b : A} → true ≡ false → a ≡ b
+listed_row e = let z : ◌≡◌ {A = ℕ} 0 1 = cc in absurd (omega arith)
+
+other_row : {A : Type 0} {a : A} → false ≡ false → a ≡ a
+other_row e = refl
+
+pub rule_out : (t : ℕ) → 55 ≤ t → rule_at t ≡ never
+unfolding rule_at
+rule_out t l = get_or-eq_default rules never {n = t} l
+
+abbrev pub child_kinds : List ℕ
+child_kinds = 13 ∷ 12 ∷ 11 ∷ 10 ∷ 9 ∷ 8 ∷ 7 ∷ 6 ∷ 5 ∷ 4 ∷ 3 ∷ 2 ∷ 1 ∷ []
+
+pub kind_else : (k : ℕ) → NoneOf k child_kinds → kind_at k ≡ no_tags
+unfolding kind_at has
+kind_else =
+    by_rows kind_at no_tags child_kinds 14
+    (other_row also listed_row also listed_row also listed_row also listed_row also listed_row also listed_row
+    also listed_row also listed_row also listed_row also listed_row also listed_row also listed_row also listed_row also tt)
+    (λ k l. get_or-eq_default kinds no_tags {n = k} l)
 
 -- ---- the same by the parts of the code
 -- where no level is left

@@ -14,7 +14,7 @@ use Rattle.spec_queries.specs.Decode.{divisor_r}
 use Rattle.queries.specs.Steps.{count_in, step_in}
 use Rattle.queries.specs.declared.table.Child.{Child}
 use Rattle.queries.specs.declared.table.Rule.{Rule}
-use Rattle.queries.specs.Table.{may_be, allowed, kind_at, child_at}
+use Rattle.queries.specs.Table.{may_be, allowed, child_by, child_at}
 use Rattle.queries.specs.CheckLaws.{divisor_is}
 
 -- ---- the table
@@ -45,15 +45,15 @@ module _ (ch : Child) (t : ℕ) where
   allowed_other n e = rw e refl
 
 module _ (r : Rule) where
-  pub child_first : (n : ℕ) → n ≡ 0 → child_at r n ≡ kind_at r.first
+  pub child_first : (n : ℕ) → n ≡ 0 → child_at r n ≡ child_by r.first
   unfolding child_at
   child_first n e = rw e refl
 
-  pub child_second : (n : ℕ) → n ≡ 1 → child_at r n ≡ kind_at r.second
+  pub child_second : (n : ℕ) → n ≡ 1 → child_at r n ≡ child_by r.second
   unfolding child_at
   child_second n e = rw e refl
 
-  pub child_later : (n : ℕ) → (n ≡ 0 → ⊥) → (n ≡ 1 → ⊥) → child_at r n ≡ kind_at r.rest
+  pub child_later : (n : ℕ) → (n ≡ 0 → ⊥) → (n ≡ 1 → ⊥) → child_at r n ≡ child_by r.rest
   unfolding child_at
   child_later zero a b = absurd (a refl)
   child_later (suc zero) a b = absurd (b refl)

@@ -1,7 +1,8 @@
 //! The table: for each tag the tags that may stand inside it, in which order and how many. It is one constant, `RULES`,
 //! which the checker consults, so that what a query is made of is said in one place.
 ghost use Rattle.std.specs.Prelude.{◌≡◌};
-ghost use Rattle.queries.specs.Table.{range, may_be, allowed, kind_at, child_at, rule_at};
+ghost use Rattle.queries.specs.Table.{range, may_be, allowed, child_by, child_at, rule_at};
+ghost use Rattle.queries.specs.Numbers.{kind_of, kind_at};
 
 use format::limits::Limits;
 
@@ -207,34 +208,72 @@ pub fn rule_of(tag: u8) -> Rule
     RULES.get(tag as usize).copied().unwrap_or(NEVER)
 }
 
-/// What a child of a kind may be.
-#[tactic(auto, unfolding(crate::specs::Table::kind_at))]
-pub fn child_of(kind: Kind) -> Child
+impl Kind {
+    /// What a child of this kind may be.
+    #[tactic(auto, unfolding(crate::specs::Table::child_by))]
+    pub fn child(self) -> Child
+        ensures { result ≡ child_by self }
+    {
+        match self {
+            Kind::Nothing => Child::NOTHING,
+            Kind::Array => Child::range(1, 1),
+            Kind::Stage => Child::range(17, 21),
+            // the same for now
+            Kind::Path | Kind::Route => Child::range(32, 32),
+            Kind::Given => Child {
+                least: 1,
+                ..Child::range(32, 32)
+            },
+            Kind::Criterion => Child::range(33, 39),
+            Kind::Data => Child::range(40, 45),
+            Kind::Divisor => Child::range(46, 46),
+            Kind::Item => Child::range(47, 48),
+            Kind::Pair => Child::range(49, 49),
+            Kind::Aggregate => Child {
+                also: 54,
+                further: 54,
+                ..Child::range(49, 49)
+            },
+            Kind::Aggregates => Child::range(50, 50),
+            Kind::Grouping => Child::range(51, 51),
+        }
+    }
+}
+
+/// The kinds by number, for those who name one so.
+static KINDS: [Kind; 14] = [
+    Kind::Nothing,
+    Kind::Array,
+    Kind::Stage,
+    Kind::Path,
+    Kind::Route,
+    Kind::Given,
+    Kind::Criterion,
+    Kind::Data,
+    Kind::Divisor,
+    Kind::Item,
+    Kind::Pair,
+    Kind::Aggregate,
+    Kind::Aggregates,
+    Kind::Grouping,
+];
+
+/// A number that no kind has is that of no child.
+impl From<u8> for Kind {
+    ghost from_gives = { λ number kind. kind ≡ kind_of number };
+
+    #[tactic(auto, unfolding(crate::specs::Numbers::kind_of))]
+    fn from(number: u8) -> Kind {
+        KINDS.get(number as usize).copied().unwrap_or(Kind::Nothing)
+    }
+}
+
+/// What a child may be whose kind has this number.
+#[tactic(auto, using(crate::specs::NumbersLaws::kind_numbered))]
+pub fn child_of(kind: u8) -> Child
     ensures { result ≡ kind_at kind }
 {
-    match kind {
-        Kind::Nothing => Child::NOTHING,
-        Kind::Array => Child::range(1, 1),
-        Kind::Stage => Child::range(17, 21),
-        // the same for now
-        Kind::Path | Kind::Route => Child::range(32, 32),
-        Kind::Given => Child {
-            least: 1,
-            ..Child::range(32, 32)
-        },
-        Kind::Criterion => Child::range(33, 39),
-        Kind::Data => Child::range(40, 45),
-        Kind::Divisor => Child::range(46, 46),
-        Kind::Item => Child::range(47, 48),
-        Kind::Pair => Child::range(49, 49),
-        Kind::Aggregate => Child {
-            also: 54,
-            further: 54,
-            ..Child::range(49, 49)
-        },
-        Kind::Aggregates => Child::range(50, 50),
-        Kind::Grouping => Child::range(51, 51),
-    }
+    Kind::from(kind).child()
 }
 
 /// What the child behind `count` others may be.
@@ -243,9 +282,9 @@ pub fn child_at(rule: Rule, count: usize) -> Child
     ensures { result ≡ child_at rule count }
 {
     match count {
-        0 => child_of(rule.first),
-        1 => child_of(rule.second),
-        _ => child_of(rule.rest),
+        0 => rule.first.child(),
+        1 => rule.second.child(),
+        _ => rule.rest.child(),
     }
 }
 

@@ -43,11 +43,13 @@ struct Writing<'b> {
 }
 
 impl Writing<'_> {
-    /// One more byte, if there is room.
-    fn put(&mut self, byte: u8) -> Option<()> {
-        *self.bytes.get_mut(self.end)? = byte;
-        self.end += 1;
-        Some(())
+    /// One more byte, where there is room. A group that finds none may still be taken no time: so what the bytes come to
+    /// is asked at the end of the text.
+    fn put(&mut self, byte: u8) {
+        if let Some(place) = self.bytes.get_mut(self.end) {
+            *place = byte;
+            self.end += 1;
+        }
     }
 
     /// The byte whose first digit was read.
@@ -55,8 +57,9 @@ impl Writing<'_> {
         ensures { IfSome result (λ rest. length rest.now ≤ length text.now) }
     {
         let (low, rest) = text.split_first()?;
+        let byte = digit(high)? << 4 | digit(*low)?;
         self.item = self.end;
-        self.put(digit(high)? << 4 | digit(*low)?)?;
+        self.put(byte);
         Some(rest)
     }
 
@@ -80,7 +83,7 @@ impl Writing<'_> {
     fn again(&mut self, from: usize, to: usize) -> Option<()> {
         for i in from..to {
             let byte = *self.bytes.get(i)?;
-            self.put(byte)?;
+            self.put(byte);
         }
         Some(())
     }
@@ -97,6 +100,9 @@ impl Writing<'_> {
         }
         self.end = from;
         for _ in 0..times {
+            if self.end == self.bytes.len() {
+                break;
+            }
             self.again(from, to)?;
         }
         self.item = self.end;

@@ -30,5 +30,5 @@ pub fn count<W: Write>(out: &mut W, text: &[u8]) -> io::Result<()> {
         say_row(out, row, rows, verdict)?;
         rest = behind;
     }
-    say_total(out, rows, "rows", agree)
+    say_total(out, rows, b"rows", agree)
 }

@@ -78,9 +78,8 @@ fn compare_row(mut row: Row) -> Option<Verdict> {
     let steps = row.number()?;
     row.line_feed()?;
     row.end()?;
-    let copy = copy.get_mut(..stretch.len())?;
-    copy.copy_from_slice(stretch);
-    Some(compare_copy(stretch, copy, steps))
+    copy.get_mut(..stretch.len())?.copy_from_slice(stretch);
+    Some(compare_copy(stretch, &mut copy, steps))
 }
 
 /// The verdict of a row whose call traces a message.

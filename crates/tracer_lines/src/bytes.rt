@@ -42,7 +42,7 @@ fn is_name_byte(byte: u8) -> bool
 fn is_value_byte(byte: u8) -> bool
     ensures { result ≡ is_value_byte byte }
 {
-    (b' '..=b'~').contains(&byte) && byte != Mark::SEMICOLON
+    byte != Mark::SEMICOLON && matches!(byte, b' '..=b'~')
 }
 
 /// Where the bytes of one kind end that begin at `from`.
