@@ -66,9 +66,12 @@ fn work_byte(number: u64) -> u8 {
     if matches!(number, 1 | 11) { 170 } else { 0 }
 }
 
-/// Whether each byte is `byte`.
+/// Whether each byte is `byte`: the first is, and each other one is as the one before it.
 fn each_is(bytes: &[u8], byte: u8) -> bool {
-    bytes.iter().all(|b| *b == byte)
+    match bytes.split_first() {
+        Some((first, rest)) => *first == byte && bytes.starts_with(rest),
+        None => true,
+    }
 }
 
 /// Compares the areas after a call whose number and length are as expected.
